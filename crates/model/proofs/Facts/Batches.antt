@@ -1,0 +1,100 @@
+-- The step and the batch, from the run. Assumes nothing.
+use Prim.Native.Nat.{ℕ, zero, suc, _+_, _*_, _/_, _%_, _≤_, _<_}
+use mathlib.Core.Bool.{Bool, true, false}
+use mathlib.Core.Path.{_≡_, refl, sym, ap, ap₂, _∙_}
+use mathlib.Core.List.{List, [], _∷_, _++_}
+use native.Mathlib.Omega.{arith}
+use lib.ListN.{length, getD, take, drop, replicate}
+use lib.Seq.{sets, sets-eq}
+use borrow.Author.Tests.{eq-eqb, ne-eqb, lt-ltb, le-ltb}
+use Rattle.model.specs.Types.{State, Event, Answer, Stepped, Batched}
+use Rattle.model.specs.Tools.{pick}
+use Rattle.model.specs.WellFormed.{wellFormed}
+use Rattle.model.specs.Refusals.{refusal, table, given}
+use Rattle.model.specs.Effects.{answer, answered, stepOf}
+use Rattle.model.specs.Runs.{runOf, answersOf, wordsOf, eventsTo, eventsOf, countOf, batchNumber, batchOf, batchAnswers}
+use Rattle.model.specs.Pools.{batchedOf}
+use Rattle.model.proofs.Facts.Running.{refusals}
+
+-- the words of an event record
+abbrev pub wordsIn : Event → List ℕ
+wordsIn e = e .kind ∷ e .line ∷ e .node ∷ e .other ∷ e .amount ∷ e .owner ∷ e .full ∷ e .word ∷ []
+
+-- a run over one event is its step
+pub step-ran : (s : State) (e : Event) {t : State} {o : List ℕ} {a : Answer} → t ≡ runOf s (eventsTo 1 (wordsIn e))
+    → o ≡ sets (0 ∷ 0 ∷ 0 ∷ []) 0 (wordsOf (answersOf s (eventsTo 1 (wordsIn e)))) → a ≡ answer (getD o 0 0) (getD o 1 0) (getD o 2 0)
+    → _≡_ {A = Stepped} (record { state = t; answer = a }) (stepOf s e)
+unfolding runOf answersOf wordsOf eventsTo
+step-ran s e ht ho ha = rw (ht, ha, ho)
+
+-- a state that is not well formed answers 1 to every event
+module _ (s : State) (ill : wellFormed s ≡ false) where
+  ill-number : (e : Event) → refusal s e ≡ 1
+  unfolding refusal table given
+  ill-number e = rw ill
+
+  pub ill-step : (e : Event) → stepOf s e ≡ answered s 1 0 64
+  unfolding stepOf
+  ill-step e = rw (ill-number e)
+
+  ill-run : (es : List Event) → runOf s es ≡ s
+  unfolding runOf
+  ill-run [] = refl
+  ill-run (e ∷ es) = rw (ill-step e) (ill-run es)
+
+  ill-answers : (es : List Event) → answersOf s es ≡ replicate (length es) (answer 1 0 64)
+  unfolding answersOf
+  ill-answers [] = refl
+  ill-answers (e ∷ es) = rw (ill-step e) (ap (λ rest. answer 1 0 64 ∷ rest) (ill-answers es))
+
+-- how long the lists are
+events-long : (k : ℕ) (ws : List ℕ) → length (eventsTo k ws) ≡ k
+unfolding eventsTo
+events-long zero ws = refl
+events-long (suc k) ws = ap suc (events-long k (drop 8 ws))
+
+answers-long : (s : State) (es : List Event) → length (answersOf s es) ≡ length es
+unfolding answersOf
+answers-long s [] = refl
+answers-long s (e ∷ es) = ap suc (answers-long (stepOf s e .state) es)
+
+words-long : (answers : List Answer) → length (wordsOf answers) ≡ 3 * length answers
+unfolding wordsOf
+words-long [] = refl
+words-long (a ∷ answers) = let h = words-long answers in omega arith
+
+module _ (s : State) (ws o : List ℕ) where
+  pub batch-20 : (length ws % 8 ≡ 0 → ⊥) → {r : Batched} → r ≡ batchedOf 20 s 0 → (r ≡ batchOf s ws o) × (o ≡ batchAnswers s ws o)
+  unfolding batchNumber batchOf batchAnswers
+  batch-20 d h = (rw (h, ne-eqb (length ws % 8) 0 d), rw (ne-eqb (length ws % 8) 0 d))
+
+  module _ (whole : length ws % 8 ≡ 0) where
+    pub batch-21 : length o / 3 < length ws / 8 → {r : Batched} → r ≡ batchedOf 21 s 0 → (r ≡ batchOf s ws o) × (o ≡ batchAnswers s ws o)
+    unfolding batchNumber batchOf batchAnswers
+    batch-21 l h =
+        let f = lt-ltb (length o) (3 * (length ws / 8)) (omega arith) in
+        (rw (h, eq-eqb (length ws % 8) 0 whole, f), rw (eq-eqb (length ws % 8) 0 whole, f))
+
+    module _ (room : length ws / 8 ≤ length o / 3) where
+      taken : batchNumber ws o ≡ 0
+      unfolding batchNumber
+      taken = rw (eq-eqb (length ws % 8) 0 whole, le-ltb (length o) (3 * (length ws / 8)) (omega arith))
+
+      written : sets o 0 (wordsOf (answersOf s (eventsOf ws))) ≡ batchAnswers s ws o
+      unfolding batchAnswers
+      written =
+          let n : length (wordsOf (answersOf s (eventsOf ws))) ≡ 3 * countOf ws = words-long (answersOf s (eventsOf ws)) ∙ ap (λ k. 3 * k) (answers-long s (eventsOf ws) ∙ events-long (countOf ws) ws) in
+          sets-eq (wordsOf (answersOf s (eventsOf ws))) o 0 (omega arith)
+          ∙ (let z : 0 + length (wordsOf (answersOf s (eventsOf ws))) ≡ 3 * countOf ws = omega arith in rw (z, taken))
+
+      pub batch-ran : {t : State} {o′ : List ℕ} {r : Batched} → t ≡ runOf s (eventsTo (length ws / 8) ws) → o′ ≡ sets o 0 (wordsOf (answersOf s (eventsTo (length ws / 8) ws)))
+          → r ≡ batchedOf 0 t (length ws / 8) → (r ≡ batchOf s ws o) × (o′ ≡ batchAnswers s ws o)
+      unfolding batchOf
+      batch-ran ht ho hr = (rw (hr, ht, taken), ho ∙ written)
+
+      pub batch-ill : wellFormed s ≡ false → {o′ : List ℕ} {r : Batched} → o′ ≡ sets o 0 (refusals (length ws / 8)) → r ≡ batchedOf 0 s (length ws / 8)
+          → (r ≡ batchOf s ws o) × (o′ ≡ batchAnswers s ws o)
+      batch-ill ill ho hr =
+          batch-ran (sym (ill-run s ill (eventsOf ws)))
+          (ho ∙ ap (λ answers. sets o 0 (wordsOf answers)) (sym (ill-answers s ill (eventsOf ws) ∙ ap (λ n. replicate n (answer 1 0 64)) (events-long (countOf ws) ws))))
+          hr

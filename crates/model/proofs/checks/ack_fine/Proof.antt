@@ -1,0 +1,13 @@
+use Rattle.model.proofs.Facts.Bools.{every-is}
+use Rattle.model.specs.Tools.{every}
+use Rattle.model.specs.WellFormed.{ackFine}
+use mathlib.Core.Path.{refl}
+use Rattle.model.proofs.checks.ack_fine.Statement.{statement}
+use Rattle.model.proofs.checks.ack_fine.Tie as tie
+
+returns : tie.Need-returns
+unfolding ackFine
+returns c = every-is _
+
+pub ack-fine-spec : {M : Type 1} → statement M
+ack-fine-spec = tie.close (tie.spec returns)

@@ -1,0 +1,13 @@
+use Rattle.model.proofs.Facts.Bools.{every-is}
+use Rattle.model.specs.Tools.{every}
+use Rattle.model.specs.WellFormed.{addressFine}
+use mathlib.Core.Path.{refl}
+use Rattle.model.proofs.checks.address_fine.Statement.{statement}
+use Rattle.model.proofs.checks.address_fine.Tie as tie
+
+returns : tie.Need-returns
+unfolding addressFine
+returns c = every-is _
+
+pub address-fine-spec : {M : Type 1} → statement M
+address-fine-spec = tie.close (tie.spec returns)

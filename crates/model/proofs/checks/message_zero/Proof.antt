@@ -1,0 +1,13 @@
+use Rattle.model.proofs.Facts.Bools.{every-is}
+use Rattle.model.specs.Tools.{every}
+use Rattle.model.specs.WellFormed.{messageZero}
+use mathlib.Core.Path.{refl}
+use Rattle.model.proofs.checks.message_zero.Statement.{statement}
+use Rattle.model.proofs.checks.message_zero.Tie as tie
+
+returns : tie.Need-returns
+unfolding messageZero
+returns c = every-is _
+
+pub message-zero-spec : {M : Type 1} → statement M
+message-zero-spec = tie.close (tie.spec returns)

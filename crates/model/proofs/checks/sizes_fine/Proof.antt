@@ -1,0 +1,13 @@
+use Rattle.model.proofs.Facts.Bools.{every-is}
+use Rattle.model.specs.Tools.{every}
+use Rattle.model.specs.WellFormed.{sizesFine}
+use mathlib.Core.Path.{refl}
+use Rattle.model.proofs.checks.sizes_fine.Statement.{statement}
+use Rattle.model.proofs.checks.sizes_fine.Tie as tie
+
+returns : tie.Need-returns
+unfolding sizesFine
+returns c = every-is _
+
+pub sizes-fine-spec : {M : Type 1} → statement M
+sizes-fine-spec = tie.close (tie.spec returns)

@@ -1,0 +1,13 @@
+use Rattle.model.proofs.Facts.Bools.{every-is}
+use Rattle.model.specs.Tools.{every}
+use Rattle.model.specs.WellFormed.{tokensFine}
+use mathlib.Core.Path.{refl}
+use Rattle.model.proofs.checks.tokens_fine.Statement.{statement}
+use Rattle.model.proofs.checks.tokens_fine.Tie as tie
+
+returns : tie.Need-returns
+unfolding tokensFine
+returns c = every-is _
+
+pub tokens-fine-spec : {M : Type 1} → statement M
+tokens-fine-spec = tie.close (tie.spec returns)

@@ -1,0 +1,26 @@
+use Rattle.model.specs.Nines.{renewalRefusal}
+use Rattle.model.specs.Refusals.{given}
+use borrow.Author.Needs.{needs}
+use Rattle.model.proofs.renewals.renewal_refusal.Statement.{statement}
+use Rattle.model.proofs.renewals.renewal_refusal.Tie as tie
+
+unborne-requires : tie.Need-unborne-requires
+unborne-requires c κs = search needs
+
+copyless-requires : tie.Need-copyless-requires
+copyless-requires c κs = search needs
+
+either-requires : tie.Need-either-requires
+either-requires c κs = search needs
+
+either-requires-2 : tie.Need-either-requires-2
+either-requires-2 c κs = search needs
+
+returns : tie.Need-returns
+unfolding renewalRefusal given
+returns c = cc
+
+pub renewal-refusal-spec : {M : Type 1} → statement M
+renewal-refusal-spec =
+    tie.close
+    (tie.spec unborne-requires copyless-requires either-requires either-requires-2 returns)

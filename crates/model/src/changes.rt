@@ -1,0 +1,244 @@
+// What an event leaves in the one cell and the one slot that it touches, and its answer.
+ghost use mathlib.Core.Path.{_≡_};
+ghost use Prim.Native.Nat.{_+_, _≤_, _<_};
+ghost use Rattle.model.specs.Types.{Tokens as TokenMessage};
+ghost use Rattle.model.specs.Cells.{fill, received};
+ghost use Rattle.model.specs.Tools.{when};
+ghost use Rattle.model.specs.Effects.{answer as answerOf, ack as ackOf, sentMessage, sentCell};
+ghost use Rattle.model.specs.Changes.{touchBy, touchOf, discarded as discardedOf, arriveBy, arriveOf, lost as lostOf, replyOf};
+ghost use Rattle.model.specs.Needs.{Sendable};
+use crate::cells::Cell;
+use crate::cells::Want;
+use crate::checks::is_free;
+use crate::events::Answer;
+use crate::events::Event;
+use crate::messages::Message;
+use crate::messages::MessageKind;
+use crate::moves::either;
+use crate::numbers::Count;
+use crate::numbers::Serial;
+use crate::refusals::cell_refusal;
+use crate::starts::free_message;
+use crate::states::Sizes;
+
+// What a read, a write or a want leaves.
+pub(crate) struct CellChange {
+    pub cell: Cell,
+    pub answer: Answer,
+}
+
+// What a delivery or a drop leaves: `reply` is the kind of what then stands in the slot.
+pub(crate) struct SlotChange {
+    pub cell: Cell,
+    pub reply: MessageKind,
+    pub answer: Answer,
+}
+
+pub(crate) fn answer(number: u32, word: u32, slot: u32) -> Answer
+    ensures { λ r. ⌜ r ≡ answerOf number word slot ⌝ }
+{
+    Answer { number, word, slot }
+}
+
+// A read, a write or a want that is accepted.
+fn touch(e: Event, x: Cell) -> CellChange
+    ensures { λ r. ⌜ r ≡ touchBy e (e .kind) x ⌝ }
+{
+    let kind = e.kind;
+    match kind {
+        0 => CellChange {
+            cell: x,
+            answer: answer(0, x.word, 64),
+        },
+        1 => CellChange {
+            cell: x.write(e.word),
+            answer: answer(0, 0, 64),
+        },
+        5 => CellChange {
+            cell: x.wish(Want::Read),
+            answer: answer(0, 0, 64),
+        },
+        _ => CellChange {
+            cell: x.wish(Want::Write),
+            answer: answer(0, 0, 64),
+        },
+    }
+}
+
+// A read, a write or a want.
+pub(crate) fn touched(z: Sizes, e: Event, x: Cell) -> CellChange
+    ensures { λ r. ⌜ r ≡ touchOf z e (e .kind) x ⌝ }
+{
+    let number = cell_refusal(z, e, x);
+    if number == 0 {
+        touch(e, x)
+    } else {
+        CellChange {
+            cell: x,
+            answer: answer(number, 0, 64),
+        }
+    }
+}
+
+// The message that a send puts into the pool.
+pub(crate) fn sent_message(e: Event, q: Serial, x: Cell) -> Message
+    requires { ⌜ Sendable e x ⌝ }
+    ensures { λ r. ⌜ r ≡ sentMessage e (q .0) x ⌝ }
+{
+    let full = e.full == 1;
+    let word = either(full, x.word, 0);
+    Message {
+        kind: MessageKind::Tokens,
+        line: e.line as u8,
+        source: e.node as u8,
+        destination: e.other as u8,
+        serial: q,
+        tokens: Count(e.amount as u8),
+        owner: e.owner == 1,
+        full,
+        word,
+    }
+}
+
+// The sender's cell after a send.
+pub(crate) fn sent_cell(e: Event, x: Cell) -> Cell
+    requires { ⌜ e .amount ≤ x .tokens .0 ⌝ }
+    ensures { λ r. ⌜ r ≡ sentCell e x ⌝ }
+{
+    let amount = Count(e.amount as u8);
+    if e.owner == 1 {
+        let y = x.back_up();
+        y.give(amount)
+    } else {
+        x.give(amount)
+    }
+}
+
+// With data, the cell becomes valid with that word.
+fn fill_from(m: Message, y: Cell) -> Cell
+    ensures { λ r. ⌜ r ≡ when (m .full) (fill (m .word)) y ⌝ }
+{
+    if m.full { y.fill(m.word) } else { y }
+}
+
+// The cell that a token message arrives at.
+fn receive(m: Message, x: Cell) -> Cell
+    requires { ⌜ x .tokens .0 + m .tokens .0 < 256 ⌝ }
+    ensures { λ r. ⌜ r ≡ received m x ⌝ }
+{
+    let come = m.tokens;
+    let y = x.take(come);
+    let z = fill_from(m, y);
+    if m.owner { z.block() } else { z }
+}
+
+fn discarded(x: Cell) -> SlotChange
+    ensures { λ r. ⌜ r ≡ discardedOf x ⌝ }
+{
+    SlotChange {
+        cell: x,
+        reply: MessageKind::Free,
+        answer: answer(0, 0, 64),
+    }
+}
+
+fn arrive_tokens(n: Count, i: u32, x: Cell, m: Message) -> SlotChange
+    requires { ⌜ x .tokens .0 + m .tokens .0 < 256 ⌝ }
+    ensures { λ r. ⌜ r ≡ arriveBy (n .0) i x m TokenMessage ⌝ }
+{
+    let y = receive(m, x);
+    let cell = y.settle(n);
+    if m.owner {
+        SlotChange {
+            cell,
+            reply: MessageKind::OwnershipAck,
+            answer: answer(0, 1, i),
+        }
+    } else {
+        SlotChange {
+            cell,
+            reply: MessageKind::Free,
+            answer: answer(0, 1, 64),
+        }
+    }
+}
+
+// A message of the line's serial is delivered from slot i, by its kind.
+fn arrive(n: Count, i: u32, x: Cell, m: Message) -> SlotChange
+    requires { ⌜ (m .kind ≡ TokenMessage → x .tokens .0 + m .tokens .0 < 256) ⌝ }
+    ensures { λ r. ⌜ r ≡ arriveBy (n .0) i x m (m .kind) ⌝ }
+{
+    let kind = m.kind;
+    match kind {
+        MessageKind::Free => SlotChange {
+            cell: x,
+            reply: MessageKind::Free,
+            answer: answer(6, 0, 64),
+        },
+        MessageKind::Tokens => arrive_tokens(n, i, x, m),
+        MessageKind::OwnershipAck => {
+            if x.backup {
+                SlotChange {
+                    cell: x.drop_backup(),
+                    reply: MessageKind::DeletionAck,
+                    answer: answer(0, 1, i),
+                }
+            } else {
+                discarded(x)
+            }
+        }
+        MessageKind::DeletionAck => {
+            if x.blocked {
+                SlotChange {
+                    cell: x.unblock(),
+                    reply: MessageKind::Free,
+                    answer: answer(0, 1, 64),
+                }
+            } else {
+                discarded(x)
+            }
+        }
+    }
+}
+
+// A drop, or a message that is stale.
+fn lost(kind: u32, q: Serial, m: Message) -> bool
+    ensures { λ r. ⌜ r ≡ lostOf kind (q .0) m ⌝ }
+{
+    let holds = m.kind;
+    let serial = m.serial;
+    !is_free(holds) & ((kind == 4) | !(serial.0 == q.0))
+}
+
+// A delivery or a drop of a slot that holds m, at the cell that m is for; q is the line's serial.
+pub(crate) fn arrived(n: Count, q: Serial, e: Event, x: Cell, m: Message) -> SlotChange
+    requires { ⌜ (m .kind ≡ TokenMessage → x .tokens .0 + m .tokens .0 < 256) ⌝ }
+    ensures { λ r. ⌜ r ≡ arriveOf (n .0) (q .0) e (e .kind) x m ⌝ }
+{
+    if lost(e.kind, q, m) {
+        discarded(x)
+    } else {
+        arrive(n, e.amount, x, m)
+    }
+}
+
+// What then stands in the slot: nothing, or an acknowledgment of m.
+pub(crate) fn reply(kind: MessageKind, q: Serial, m: Message) -> Message
+    ensures { λ r. ⌜ r ≡ replyOf kind (q .0) m ⌝ }
+{
+    if is_free(kind) {
+        free_message()
+    } else {
+        Message {
+            kind,
+            line: m.line,
+            source: m.destination,
+            destination: m.source,
+            serial: q,
+            tokens: Count(0),
+            owner: false,
+            full: false,
+            word: 0,
+        }
+    }
+}

@@ -1,0 +1,181 @@
+// The ways in which a cell changes (document 01, "What each event does"), each a method that returns the cell.
+ghost use mathlib.Core.Path.{_≡_};
+ghost use Prim.Native.Nat.{_+_, _≤_, _<_};
+ghost use Rattle.model.specs.Cells.{ableToRead, ableToWrite, served, give as given, take as taken, fill as filled, block as blockedNow, backUp, unbacked, unblocked, cleared, recreated, written, withWant, settled};
+ghost use Rattle.model.specs.Tools.{pick};
+use crate::cells::Cell;
+use crate::cells::Want;
+use crate::numbers::Count;
+
+// `a` where the test passes, else `b`.
+pub(crate) fn either(test: bool, a: u32, b: u32) -> u32
+    ensures { λ r. ⌜ r ≡ pick test a b ⌝ }
+{
+    if test { a } else { b }
+}
+
+impl Cell {
+    // The count falls by the amount; with no token left, valid and the data go.
+    pub(crate) fn give(mut self, amount: Count) -> Cell
+        requires { ⌜ amount .0 ≤ self .tokens .0 ⌝ }
+        ensures { λ r. ⌜ r ≡ given (amount .0) self ⌝ }
+    {
+        let had = self.tokens;
+        let some = amount.0 < had.0;
+        let left = Count(had.0 - amount.0);
+        self.word = either(some, self.word, 0);
+        self.valid = some & self.valid;
+        self.tokens = left;
+        self
+    }
+
+    // The count rises by the amount.
+    pub(crate) fn take(mut self, amount: Count) -> Cell
+        requires { ⌜ self .tokens .0 + amount .0 < 256 ⌝ }
+        ensures { λ r. ⌜ r ≡ taken (amount .0) self ⌝ }
+    {
+        let had = self.tokens;
+        let sum = Count(had.0 + amount.0);
+        self.tokens = sum;
+        self
+    }
+
+    // Valid, with the word.
+    pub(crate) fn fill(mut self, word: u32) -> Cell
+        ensures { λ r. ⌜ r ≡ filled word self ⌝ }
+    {
+        self.valid = true;
+        self.word = word;
+        self
+    }
+
+    // Owner and blocked.
+    pub(crate) fn block(mut self) -> Cell
+        ensures { λ r. ⌜ r ≡ blockedNow self ⌝ }
+    {
+        self.owner = true;
+        self.blocked = true;
+        self
+    }
+
+    pub(crate) fn unblock(mut self) -> Cell
+        ensures { λ r. ⌜ r ≡ unblocked self ⌝ }
+    {
+        self.blocked = false;
+        self
+    }
+
+    // Owner no longer, with a backup of the data.
+    pub(crate) fn back_up(mut self) -> Cell
+        ensures { λ r. ⌜ r ≡ backUp self ⌝ }
+    {
+        self.owner = false;
+        self.backup = true;
+        self.saved = self.word;
+        self
+    }
+
+    // The backup goes, with its word.
+    pub(crate) fn drop_backup(mut self) -> Cell
+        ensures { λ r. ⌜ r ≡ unbacked self ⌝ }
+    {
+        self.backup = false;
+        self.saved = 0;
+        self
+    }
+
+    pub(crate) fn write(mut self, word: u32) -> Cell
+        ensures { λ r. ⌜ r ≡ written word self ⌝ }
+    {
+        self.word = word;
+        self
+    }
+
+    // Tokens, marks and words go; the want stays.
+    pub(crate) fn clear(self) -> Cell
+        ensures { λ r. ⌜ r ≡ cleared self ⌝ }
+    {
+        let want = self.want;
+        Cell {
+            tokens: Count(0),
+            valid: false,
+            owner: false,
+            blocked: false,
+            backup: false,
+            want,
+            word: 0,
+            saved: 0,
+        }
+    }
+
+    // All n tokens, owner and valid with the word, not blocked; the want stays.
+    pub(crate) fn recreate(self, n: Count, word: u32) -> Cell
+        ensures { λ r. ⌜ r ≡ recreated (n .0) word self ⌝ }
+    {
+        let want = self.want;
+        Cell {
+            tokens: n,
+            valid: true,
+            owner: true,
+            blocked: false,
+            backup: false,
+            want,
+            word,
+            saved: 0,
+        }
+    }
+
+    // With this want. An enum field is not stored to, so the cell is written anew.
+    pub(crate) fn wish(self, want: Want) -> Cell
+        ensures { λ r. ⌜ r ≡ withWant want self ⌝ }
+    {
+        let tokens = self.tokens;
+        Cell {
+            tokens,
+            valid: self.valid,
+            owner: self.owner,
+            blocked: self.blocked,
+            backup: self.backup,
+            want,
+            word: self.word,
+            saved: self.saved,
+        }
+    }
+
+    pub(crate) fn able_to_read(self) -> bool
+        ensures { λ r. ⌜ r ≡ ableToRead self ⌝ }
+    {
+        let had = self.tokens;
+        (0 < had.0) & self.valid
+    }
+
+    pub(crate) fn able_to_write(self, n: Count) -> bool
+        ensures { λ r. ⌜ r ≡ ableToWrite (n .0) self ⌝ }
+    {
+        let had = self.tokens;
+        (had.0 == n.0) & self.valid
+    }
+
+    // The cell can do what it wants.
+    fn is_served(self, n: Count) -> bool
+        ensures { λ r. ⌜ r ≡ served (n .0) self (self .want) ⌝ }
+    {
+        let want = self.want;
+        match want {
+            Want::Nothing => false,
+            Want::Read => self.able_to_read(),
+            Want::Write => self.able_to_write(n),
+        }
+    }
+
+    // The want ends if the cell can do what it wants.
+    pub(crate) fn settle(self, n: Count) -> Cell
+        ensures { λ r. ⌜ r ≡ settled (n .0) self ⌝ }
+    {
+        if self.is_served(n) {
+            self.wish(Want::Nothing)
+        } else {
+            self
+        }
+    }
+}

@@ -1,0 +1,123 @@
+// A start: the fresh state.
+ghost use mathlib.Core.Path.{_≡_};
+ghost use Prim.Native.Nat.{_≤_};
+ghost use Rattle.model.specs.States.{freeMessage};
+ghost use Rattle.model.specs.Cells.{zeroCell};
+ghost use Rattle.model.specs.Fresh.{memoryCell, freshCells, fresh as freshOf, startOf};
+use crate::cells::Cell;
+use crate::cells::Want;
+use crate::checks::sizes_fine;
+use crate::events::Answer;
+use crate::events::Stepped;
+use crate::messages::Message;
+use crate::messages::MessageKind;
+use crate::numbers::Count;
+use crate::numbers::Serial;
+use crate::states::Sizes;
+use crate::states::State;
+
+// The empty cell.
+pub(crate) fn empty_cell() -> Cell
+    ensures { λ r. ⌜ r ≡ zeroCell ⌝ }
+{
+    Cell {
+        tokens: Count(0),
+        valid: false,
+        owner: false,
+        blocked: false,
+        backup: false,
+        want: Want::Nothing,
+        word: 0,
+        saved: 0,
+    }
+}
+
+// The memory's cell: all tokens, owner and valid.
+fn memory_cell(n: u8) -> Cell
+    ensures { λ r. ⌜ r ≡ memoryCell n ⌝ }
+{
+    let empty = empty_cell();
+    empty.recreate(Count(n), 0)
+}
+
+// What stands in a free slot.
+pub(crate) fn free_message() -> Message
+    ensures { λ r. ⌜ r ≡ freeMessage ⌝ }
+{
+    Message {
+        kind: MessageKind::Free,
+        line: 0,
+        source: 0,
+        destination: 0,
+        serial: Serial(0),
+        tokens: Count(0),
+        owner: false,
+        full: false,
+        word: 0,
+    }
+}
+
+// 144 times the empty cell, then the memory's cell of each line.
+fn fresh_cells(caches: u8, lines: u8, n: u8) -> [Cell; 144]
+    requires { ⌜ (caches ≤ 8) × (lines ≤ 16) ⌝ }
+    ensures { λ r. ⌜ r ≡ freshCells lines caches n ⌝ }
+{
+    let empty = empty_cell();
+    let memory = memory_cell(n);
+    let mut cells = [empty; 144];
+    let mut line = 0;
+    while line < lines {
+        let at = line as usize * 9 + caches as usize;
+        cells[at] = memory;
+        line += 1;
+    }
+    cells
+}
+
+fn fresh(caches: u8, lines: u8, n: u8) -> State
+    requires { ⌜ (caches ≤ 8) × (lines ≤ 16) ⌝ }
+    ensures { λ r. ⌜ r ≡ freshOf caches lines n ⌝ }
+{
+    let zero = Serial(0);
+    let serials = [zero; 16];
+    let cells = fresh_cells(caches, lines, n);
+    let free = free_message();
+    let pool = [free; 64];
+    State {
+        sizes: Sizes {
+            caches,
+            lines,
+            total: Count(n),
+        },
+        serials,
+        cells,
+        pool,
+    }
+}
+
+// The fresh state of the sizes; 19 and the state that is all zero where one is out of range.
+pub fn start(caches: u32, lines: u32, tokens: u32) -> Stepped
+    ensures { λ r. ⌜ r ≡ startOf caches lines tokens ⌝ }
+{
+    if sizes_fine(caches, lines, tokens) {
+        let state = fresh(caches as u8, lines as u8, tokens as u8);
+        Stepped {
+            state,
+            answer: Answer {
+                number: 0,
+                word: 0,
+                slot: 64,
+            },
+        }
+    } else {
+        let state = fresh(0, 0, 0);
+        Stepped {
+            state,
+            answer: Answer {
+                number: 19,
+                word: 0,
+                slot: 64,
+            },
+        }
+    }
+}

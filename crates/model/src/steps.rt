@@ -1,0 +1,88 @@
+// The step and the batch: the whole state is checked once, then the events run in place.
+ghost use mathlib.Core.Path.{_≡_};
+ghost use Prim.Native.Nat.{_*_, _≤_};
+ghost use lib.ListN.{length, replicate};
+ghost use lib.Seq.{sets};
+ghost use Rattle.model.specs.Effects.{answer as answerOf, stepOf};
+ghost use Rattle.model.specs.Runs.{wordsOf, batchOf, batchAnswers};
+ghost use Rattle.model.specs.Pools.{batchedOf};
+use crate::changes::answer;
+use crate::events::Batched;
+use crate::events::Event;
+use crate::events::Stepped;
+use crate::runs::put;
+use crate::runs::run;
+use crate::states::State;
+use crate::tallies::well_formed;
+
+// One step, of any state and any event record.
+pub fn step(s: State, e: Event) -> Stepped
+    ensures { λ r. ⌜ r ≡ stepOf s e ⌝ }
+{
+    if well_formed(s) {
+        let words = [
+            e.kind,
+            e.line,
+            e.node,
+            e.other,
+            e.amount,
+            e.owner,
+            e.full,
+            e.word,
+        ];
+        let mut out = [0u32; 3];
+        let after = run(s, 1, &words, &mut out);
+        Stepped {
+            state: after,
+            answer: answer(out[0], out[1], out[2]),
+        }
+    } else {
+        Stepped {
+            state: s,
+            answer: answer(1, 0, 64),
+        }
+    }
+}
+
+// Each of n events answers 1.
+fn refuse_all(n: usize, answers: &mut [u32])
+    requires { ⌜ n * 3 ≤ length (now answers) ⌝ }
+    ensures { λ _. ⌜ now (answers .exit) ≡ sets (now (answers .entry)) 0 (wordsOf (replicate n (answerOf 1 0 64))) ⌝ }
+{
+    let mut i: usize = 0;
+    while i < n {
+        put(answers, i * 3, answer(1, 0, 64));
+        i += 1;
+    }
+}
+
+// What a batch returns: its number, the state, and the count of events run.
+fn batched(number: u32, state: State, count: usize) -> Batched
+    ensures { λ r. ⌜ r ≡ batchedOf number state count ⌝ }
+{
+    Batched {
+        number,
+        state,
+        count,
+    }
+}
+
+// A run over the events in a list of words, eight for each, with three answer words for each.
+pub fn batch(s: State, events: &[u32], answers: &mut [u32]) -> Batched
+    ensures { λ r. ⌜ (r ≡ batchOf s (now (events .entry)) (now (answers .entry))) × (now (answers .exit) ≡ batchAnswers s (now (events .entry)) (now (answers .entry))) ⌝ }
+{
+    let count = events.len() / 8;
+    if events.len() % 8 != 0 {
+        return batched(20, s, 0);
+    }
+    if answers.len() / 3 < count {
+        return batched(21, s, 0);
+    }
+    if well_formed(s) {
+        let ran = run(s, count, events, answers);
+        batched(0, ran, count)
+    } else {
+        refuse_all(count, answers);
+        batched(0, s, count)
+    }
+}
