@@ -1,0 +1,13 @@
+pub mod Invariant
+pub mod Changes
+pub mod Sends
+pub mod Arrivals
+pub mod Writes
+pub mod Recreations
+pub mod Steps
+pub mod Copies
+pub mod Runs
+pub mod LastWrites
+pub mod Late
+pub mod Lost
+pub mod Coherence
