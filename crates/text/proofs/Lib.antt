@@ -1,0 +1,12 @@
+pub mod Bools
+pub mod Values
+pub mod Fields
+pub mod Lines
+pub mod Lengths
+pub mod Runs
+pub mod Takes
+pub mod Stores
+pub mod Decimals
+pub mod Answers
+pub mod Events
+pub mod Laws

@@ -1,0 +1,5 @@
+pub mod Lines
+pub mod Reading
+pub mod Writing
+pub mod Chunks
+pub mod Parts

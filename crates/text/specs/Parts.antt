@@ -1,0 +1,65 @@
+-- What the private functions state. Assumes nothing.
+use Prim.Native.Nat.{ℕ, zero, suc, _+_, _/_, _%_, _<_, _≤_}
+use mathlib.Core.Path.{_≡_}
+use mathlib.Core.Bool.{Bool, true, cond, _&&_}
+use mathlib.Core.List.{List, [], _∷_, _++_}
+use mathlib.Core.Option.{Option, none, some}
+use lib.Dec.{leb, eqb}
+use lib.ListN.{length, getD, drop}
+use Rattle.text.specs.declared.numbers.Run.{Run}
+use Rattle.text.specs.declared.numbers.Number.{Number}
+use Rattle.text.specs.declared.reading.Taken.{Taken}
+use Rattle.text.specs.Lines.{firstLine, passed}
+use Rattle.text.specs.Reading.{fieldsOf, isDigit, allDigits, spelled, valueOf, valuesOf, unread}
+
+-- digits stand between two places, and spell v
+pub record Digits (s : List ℕ) (from end v : ℕ) : Type 0 where
+  pub text : List ℕ
+  pub here : drop from s ≡ text ++ drop end s
+  pub all : allDigits text ≡ true
+  pub spell : spelled 0 text ≡ v
+  pub long : end ≡ from + length text
+
+-- a digit that follows would be the eleventh, or make the number too large
+abbrev pub Stops : List ℕ → ℕ → ℕ → Type 0
+Stops s end v = end < length s → isDigit (getD s end 0) ≡ true → 1000000000 ≤ v
+
+-- digits up to a place where they stop
+pub record Runs (s : List ℕ) (from : ℕ) (r : Run) : Type 0 where
+  pub run : Digits s from (r .end) (r .value)
+  pub small : r .value < 10000000000
+  pub after : r .after ≡ getD s (r .end) 10
+  pub stop : Stops s (r .end) (r .value)
+
+-- the numbers of a line of any length
+abbrev pub numbers : List ℕ → Option (List ℕ)
+numbers l = valuesOf (fieldsOf l)
+
+-- the number at a place; where none is readable, the end is that place
+pub record Found (s : List ℕ) (from : ℕ) (r : Number) : Type 0 where
+  pub run : Digits s from (r .end) (r .value)
+  pub refused : r .end ≡ from → numbers (firstLine (drop from s)) ≡ none
+  pub value : from < r .end → valueOf (run .text) ≡ some (r .value)
+  pub after : from < r .end → r .after ≡ getD s (r .end) 10
+  pub stop : from < r .end → Stops s (r .end) (r .value)
+
+-- two digits stand at a place
+pub record TwoDigits (s : List ℕ) (from : ℕ) : Type 0 where
+  pub within : from + 1 < length s
+  pub first : isDigit (getD s from 0) ≡ true
+  pub second : isDigit (getD s (from + 1) 0) ≡ true
+
+-- a line ends here
+abbrev pub atEnd : List ℕ → Bool
+atEnd t = eqb (length (firstLine t)) 0
+
+-- the line whose last number ends at a place
+unfoldable pub finished : List ℕ → ℕ → ℕ → List ℕ → Taken
+finished s end count words =
+    cond (leb count 8 && atEnd (drop end s)) (record { count = count; words = words; next = end + passed (drop end s) })
+    (unread (end + passed (drop end s)))
+
+-- the last k decimal digits of n
+unfoldable pub digits : ℕ → ℕ → List ℕ
+digits zero n = []
+digits (suc k) n = digits k (n / 10) ++ ((48 + n % 10) ∷ [])

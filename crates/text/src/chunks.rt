@@ -1,0 +1,103 @@
+// Many lines at once: events are read into words, answers are written for lines.
+use crate::reading::take;
+use crate::writing::write;
+ghost use Prim.Native.Nat.{_+_, _≤_, min};
+ghost use mathlib.Core.Path.{_≡_};
+ghost use lib.ListN.{length};
+ghost use lib.Seq.{sets};
+ghost use Rattle.text.specs.Chunks.{Parses, room, printed, printedCount};
+
+// How far a chunk was read: lines, words put, and the place of the next line.
+pub struct Parsed {
+    pub lines: usize,
+    pub words: usize,
+    pub next: usize,
+}
+
+fn least(a: usize, b: usize) -> usize
+    ensures { λ r. ⌜ r ≡ min a b ⌝ }
+{
+    if a < b { a } else { b }
+}
+
+// Puts eight words from place `at` on.
+fn store(dst: &mut [u32], at: usize, w: [u32; 8])
+    requires { ⌜ at + 8 ≤ length (now dst) ⌝ }
+    ensures { λ _. ⌜ now (dst .exit) ≡ sets (now (dst .entry)) at w ⌝ }
+{
+    let mut k: usize = 0;
+    while k < 8 {
+        dst[at + k] = w[k];
+        k += 1;
+    }
+}
+
+// Reads at most `most` lines of `s`, as there is room for them: eight words for each event and a mark for each line.
+pub fn parse(s: &[u8], most: usize, words: &mut [u32], marks: &mut [u8]) -> Parsed
+    ensures { λ r. ⌜ Parses (now (s .entry)) (room most (now (words .entry)) (now (marks .entry))) (now (words .entry)) (now (marks .entry)) (now (words .exit)) (now (marks .exit)) r ⌝ }
+{
+    let n = s.len();
+    let some = least(words.len() / 8, marks.len());
+    let k = least(most, some);
+    let mut i: usize = 0;
+    let mut lines: usize = 0;
+    let mut at: usize = 0;
+    while lines < k {
+        if n <= i {
+            return Parsed {
+                lines,
+                words: at,
+                next: i,
+            };
+        }
+        let t = take(s, i);
+        let count = t.count;
+        let w = t.words;
+        i = t.next;
+        if count == 8 {
+            store(words, at, w);
+            at += 8;
+            marks[lines] = 1;
+            lines += 1;
+            continue;
+        }
+        marks[lines] = 0;
+        lines += 1;
+    }
+    Parsed {
+        lines,
+        words: at,
+        next: i,
+    }
+}
+
+// Puts the answers to lines with these marks at the start of `dst`, and answers how many bytes that is; 0, and nothing is put, where
+// there are not 33 bytes and three words for each line.
+pub fn print(dst: &mut [u8], marks: &[u8], answers: &[u32]) -> usize
+    ensures { λ r. ⌜ r ≡ printedCount (now (dst .entry)) (now (marks .entry)) (now (answers .entry)) ⌝ }
+    ensures { λ _. ⌜ now (dst .exit) ≡ printed (now (dst .entry)) (now (marks .entry)) (now (answers .entry)) ⌝ }
+{
+    let n = marks.len();
+    if dst.len() / 33 < n {
+        return 0;
+    }
+    if answers.len() / 3 < n {
+        return 0;
+    }
+    let mut j: usize = 0;
+    let mut a: usize = 0;
+    let mut at: usize = 0;
+    while j < n {
+        if marks[j] == 1 {
+            let k = write(dst, at, answers[a], answers[a + 1], answers[a + 2]);
+            at += k;
+            a += 3;
+            j += 1;
+            continue;
+        }
+        let k = write(dst, at, 22, 0, 64);
+        at += k;
+        j += 1;
+    }
+    at
+}

@@ -1,0 +1,127 @@
+// One number of a line.
+ghost use Prim.Native.Nat.{_<_, _≤_};
+ghost use mathlib.Core.Path.{_≡_};
+ghost use Rattle.text.specs.Reading.{isDigit};
+ghost use Rattle.text.specs.Parts.{Runs, Found, TwoDigits};
+
+// Digits: what they spell, the place past them, and the byte there; at the end of input a line feed.
+pub struct Run {
+    pub value: u64,
+    pub end: usize,
+    pub after: u8,
+}
+
+// A number, the place past its digits, and the byte there; at the end of input a line feed.
+pub struct Number {
+    pub value: u32,
+    pub end: usize,
+    pub after: u8,
+}
+
+fn is_digit(b: u8) -> bool
+    ensures { λ r. ⌜ r ≡ isDigit b ⌝ }
+{
+    (48 <= b) & (b <= 57)
+}
+
+// The digits from a place on, to the tenth of a number: so the value cannot wrap.
+fn digits(s: &[u8], from: usize) -> Run
+    ensures { λ r. ⌜ Runs (now (s .entry)) from r ⌝ }
+{
+    let n = s.len();
+    let mut i = from;
+    let mut value: u64 = 0;
+    while i < n {
+        let b = s[i];
+        if !is_digit(b) {
+            return Run {
+                value,
+                end: i,
+                after: b,
+            };
+        }
+        if 1000000000 <= value {
+            return Run {
+                value,
+                end: i,
+                after: b,
+            };
+        }
+        value = value * 10 + (b - 48) as u64;
+        i += 1;
+    }
+    Run {
+        value,
+        end: i,
+        after: 10,
+    }
+}
+
+// The number of the field at a place with two digits.
+fn long_field(s: &[u8], from: usize) -> Number
+    requires { ⌜ TwoDigits (now s) from ⌝ }
+    ensures { λ r. ⌜ Found (now (s .entry)) from r ⌝ }
+{
+    if s[from] == 48 {
+        return Number {
+            value: 0,
+            end: from,
+            after: 0,
+        };
+    }
+    let d = digits(s, from);
+    let value = d.value;
+    if 4294967295 < value {
+        return Number {
+            value: 0,
+            end: from,
+            after: 0,
+        };
+    }
+    Number {
+        value: value as u32,
+        end: d.end,
+        after: d.after,
+    }
+}
+
+// The number of the field at a place. Where none is readable, the end is that place. Most fields have one digit, so the byte after
+// the first is looked at before the loop.
+pub(crate) fn field(s: &[u8], from: usize) -> Number
+    ensures { λ r. ⌜ Found (now (s .entry)) from r ⌝ }
+{
+    let n = s.len();
+    if n <= from {
+        return Number {
+            value: 0,
+            end: from,
+            after: 0,
+        };
+    }
+    let first = s[from];
+    if !is_digit(first) {
+        return Number {
+            value: 0,
+            end: from,
+            after: 0,
+        };
+    }
+    let value = (first - 48) as u32;
+    let second = from + 1;
+    if n <= second {
+        return Number {
+            value,
+            end: second,
+            after: 10,
+        };
+    }
+    let after = s[second];
+    if !is_digit(after) {
+        return Number {
+            value,
+            end: second,
+            after,
+        };
+    }
+    long_field(s, from)
+}

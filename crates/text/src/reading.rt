@@ -1,0 +1,89 @@
+// One line of numbers.
+use crate::numbers::field;
+ghost use Prim.Native.Nat.{_+_};
+ghost use mathlib.Core.Path.{_≡_};
+ghost use lib.ListN.{drop, replicate};
+ghost use Rattle.text.specs.Lines.{passed};
+ghost use Rattle.text.specs.Reading.{takenAt};
+ghost use Rattle.text.specs.Parts.{finished};
+
+// A line that was read: how many numbers it has, 1 to 8, those numbers and then zeros; not readable: all zero.
+// And the place of the next line.
+pub struct Taken {
+    pub count: usize,
+    pub words: [u32; 8],
+    pub next: usize,
+}
+
+// A line that is not readable, seen at a place.
+fn skip(s: &[u8], from: usize) -> Taken
+    ensures { λ r. ⌜ r ≡ Rattle.text.specs.Reading.unread (from + passed (drop from (now (s .entry)))) ⌝ }
+{
+    let n = s.len();
+    let mut i = from;
+    while i < n {
+        if s[i] == 10 {
+            return Taken {
+                count: 0,
+                words: [0u32; 8],
+                next: i + 1,
+            };
+        }
+        i += 1;
+    }
+    Taken {
+        count: 0,
+        words: [0u32; 8],
+        next: i,
+    }
+}
+
+// A line whose last number ends at a place.
+fn finish(s: &[u8], end: usize, count: usize, words: [u32; 8]) -> Taken
+    ensures { λ r. ⌜ r ≡ finished (now (s .entry)) end count words ⌝ }
+{
+    if 8 < count {
+        return skip(s, end);
+    }
+    if s.len() <= end {
+        return Taken {
+            count,
+            words,
+            next: end,
+        };
+    }
+    if s[end] == 10 {
+        return Taken {
+            count,
+            words,
+            next: end + 1,
+        };
+    }
+    skip(s, end)
+}
+
+// The numbers of the line at a place, and the place of the next. A ninth number is passed over here and refused at the line's
+// end: a test in the loop would have it unrolled eight times. A line of up to eight numbers has at most 87 bytes, so its length
+// needs no test.
+pub fn take(s: &[u8], from: usize) -> Taken
+    ensures { λ r. ⌜ r ≡ takenAt (now (s .entry)) from ⌝ }
+{
+    let mut words = [0u32; 8];
+    let mut count: usize = 0;
+    let mut i: usize = from;
+    loop {
+        let f = field(s, i);
+        let end = f.end;
+        if end == i {
+            return skip(s, i);
+        }
+        if count < 8 {
+            words[count] = f.value;
+        }
+        count += 1;
+        if f.after != 9 {
+            return finish(s, end, count, words);
+        }
+        i = end + 1;
+    }
+}

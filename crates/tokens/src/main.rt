@@ -1,0 +1,94 @@
+// The program `tokens`: lines of numbers from standard input, an answer to each to standard output. What it is to print is
+// `program` of trace/specs, however the input arrives (`arrives` in trace/proofs): the loop here only reads and writes.
+use trace::Kept;
+ghost use Prim.Native.Nat.{_≤_, _<_, _+_};
+ghost use mathlib.Core.Bool.{true};
+ghost use mathlib.Core.Path.{_≡_};
+ghost use lib.ListN.{length};
+ghost use Rattle.text.specs.Lines.{linesOf};
+ghost use Rattle.trace.specs.Program.{keptBy};
+
+// What is kept after lines were answered, and whether their answers could be written.
+struct Answered {
+    kept: Kept,
+    written: bool,
+}
+
+fn send(out: &[u8], size: usize) -> bool
+    requires { ⌜ size ≤ length (now out) ⌝ }
+{
+    io::write_all(1, &out[0..size])
+}
+
+// Answers all lines of `s`, as many at a time as there is room for.
+fn answer_all(kept: Kept, s: &[u8], out: &mut [u8]) -> Answered
+    requires { ⌜ 33 ≤ length (now out) ⌝ }
+    ensures { λ r. ⌜ (r .written ≡ true → r .kept ≡ keptBy kept (linesOf (now (s .entry)))) ⌝ }
+{
+    let n = s.len();
+    let mut now_kept = kept;
+    let mut at: usize = 0;
+    while at < n {
+        let a = trace::advance(now_kept, &s[at..n], out);
+        let next = a.kept;
+        now_kept = next;
+        at += a.read;
+        if !send(out, a.written) {
+            return Answered {
+                kept: now_kept,
+                written: false,
+            };
+        }
+    }
+    Answered {
+        kept: now_kept,
+        written: true,
+    }
+}
+
+// Reads once, as many bytes as there is room for at most; none at the end of input.
+fn read_part(part: &mut [u8]) -> usize
+    ensures { λ r. ⌜ r ≤ length (now (part .entry)) ⌝ }
+{
+    let got = libc::read(0, part);
+    io::count(got, part)
+}
+
+// How many of the bytes read can be answered: at the end of input all, before it the whole lines.
+fn ready(s: &[u8], last: bool) -> usize
+    ensures { λ r. ⌜ r ≤ length (now (s .entry)) ⌝ }
+{
+    if last { s.len() } else { trace::whole(s) }
+}
+
+// Reads and answers to the end of input, or until a write fails.
+fn run(buf: &mut [u8], out: &mut [u8])
+    requires { ⌜ (97 < length (now buf)) × (33 ≤ length (now out)) ⌝ }
+{
+    let mut kept = trace::unstarted();
+    let mut have: usize = 0;
+    let mut turns = u64::MAX;
+    while turns > 0 {
+        let more = read_part(&mut buf[have..]);
+        let total = have + more;
+        let last = more == 0;
+        let end = ready(&buf[0..total], last);
+        let a = answer_all(kept, &buf[0..end], out);
+        if last {
+            return;
+        }
+        if !a.written {
+            return;
+        }
+        let next = a.kept;
+        kept = next;
+        have = trace::carry(buf, end, total);
+        turns -= 1;
+    }
+}
+
+fn main() {
+    let mut buf = io::large_buffer();
+    let mut out = [0u8; 67584];
+    run(&mut buf, &mut out);
+}

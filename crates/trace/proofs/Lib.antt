@@ -1,0 +1,7 @@
+pub mod Lists
+pub mod Wholes
+pub mod Batches
+pub mod Starts
+pub mod Copies
+pub mod Sizes
+pub mod Laws

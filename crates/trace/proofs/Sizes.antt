@@ -1,0 +1,116 @@
+-- How far one call goes, and that calls in turn go all the way. Assumes nothing.
+use Prim.Native.Nat.{ℕ, zero, suc, _+_, _-_, _*_, _/_, _≤_, _<_, min}
+use mathlib.Core.Path.{_≡_, refl, sym, ap, subst, _∙_}
+use mathlib.Core.Bool.{Bool, true, false, cond}
+use mathlib.Core.List.{List, [], _∷_, _++_}
+use native.Mathlib.Omega.{arith}
+use lib.Dec.{eqb}
+use lib.Seq.{drop-drop, take-all}
+use lib.ListN.{length, take, drop, length-append, length-take, length-drop, drop-of-length-le}
+use Rattle.model.specs.declared.events.Answer.{Answer}
+use Rattle.model.specs.Tools.{pick}
+use Rattle.text.specs.Lines.{linesOf, passed, passedBy}
+use Rattle.text.proofs.Answers.{answer-short}
+use Rattle.trace.specs.declared.kept.Kept.{Kept}
+use Rattle.trace.specs.declared.kept.Advanced.{Advanced}
+use Rattle.trace.specs.Program.{keptAfter, lineDoes, lineText, keptBy, printedBy}
+use Rattle.trace.specs.Chunks.{mostLines, linesTaken, advanced}
+use Rattle.trace.proofs.Lists.{kept-append, lines-split}
+
+text-short : (a : Answer) → length (lineText a) ≤ 33
+unfolding lineText
+text-short a = answer-short (a .number) (a .word) (a .slot)
+
+printed-short : (ls : List (List ℕ)) (k : Kept) → length (printedBy k ls) ≤ 33 * length ls
+unfolding printedBy
+printed-short [] k = omega arith
+printed-short (l ∷ ls) k =
+    let a = text-short (lineDoes k l .answer) in
+    let i = printed-short ls (keptAfter k l) in
+    let e = length-append (lineText (lineDoes k l .answer)) (printedBy (keptAfter k l) ls) in
+    omega arith
+
+bounds : (b : ℕ) (n m : ℕ) (t : Bool) → n ≤ m → (cond t 1 (suc n) ≤ suc m) × (0 < cond t 1 (suc n))
+bounds b n m true h = (omega arith, omega arith)
+bounds b n m false h = (omega arith, omega arith)
+
+passed-within : (s : List ℕ) → passed s ≤ length s
+unfolding passed
+passed-within [] = omega arith
+passed-within (b ∷ s) = bounds b (passed s) (length s) (eqb b 10) (passed-within s) .0
+
+passed-some : (s : List ℕ) → 0 < length s → 0 < passed s
+unfolding passed
+passed-some [] h = absurd (omega arith)
+passed-some (b ∷ s) h = bounds b (passed s) (length s) (eqb b 10) (passed-within s) .1
+
+passed-by-within : (n : ℕ) (s : List ℕ) → passedBy n s ≤ length s
+unfolding passedBy
+passed-by-within zero s = omega arith
+passed-by-within (suc n) s =
+    let i = passed-by-within n (drop (passed s) s) in
+    let l = length-drop (passed s) s in
+    let w = passed-within s in
+    omega arith
+
+passed-by-some : (n : ℕ) (s : List ℕ) → 0 < n → 0 < length s → 0 < passedBy n s
+unfolding passedBy
+passed-by-some zero s h k = absurd (omega arith)
+passed-by-some (suc n) s h k = let p = passed-some s k in omega arith
+
+at-least-one : (t : Bool) (m : ℕ) → 0 < m → 0 < min m (pick t 2048 1)
+at-least-one true m h = omega arith
+at-least-one false m h = omega arith
+
+module _ (k : Kept) (s out : List ℕ) where
+  pub written-fits : advanced k s out .written ≤ length out
+  unfolding advanced
+  written-fits =
+      let p = printed-short (linesTaken k s out) k in
+      let l = length-take (mostLines k out) (linesOf s) in
+      omega arith
+
+  pub read-within : advanced k s out .read ≤ length s
+  unfolding advanced
+  read-within = passed-by-within (mostLines k out) s
+
+  pub read-some : 0 < length s → 33 ≤ length out → 0 < advanced k s out .read
+  unfolding advanced
+  read-some h g = passed-by-some (mostLines k out) s (at-least-one (k .started) (length out / 33) (omega arith)) h
+
+  -- a call, and then the lines that are left
+  pub kept-on : keptBy (advanced k s out .kept) (linesOf (drop (advanced k s out .read) s)) ≡ keptBy k (linesOf s)
+  unfolding advanced
+  kept-on = sym (ap (keptBy k) (lines-split (mostLines k out) s) ∙ kept-append (linesTaken k s out) _ k)
+
+-- a call on the lines from a place on
+pub record Turn (s : List ℕ) (at : ℕ) (k : Kept) (out : List ℕ) (r : Advanced) : Type 0 where
+  pub fits : r .written ≤ length out
+  pub within : at + r .read ≤ length s
+  pub on : 0 < r .read
+  pub kept : keptBy (r .kept) (linesOf (drop (at + r .read) s)) ≡ keptBy k (linesOf (drop at s))
+
+turn-at : (s : List ℕ) (at : ℕ) (k : Kept) (out : List ℕ) → at < length s → 33 ≤ length out → Turn s at k out (advanced k (drop at s) out)
+turn-at s at k out h room =
+    let l = length-drop at s in
+    let w = read-within k (drop at s) out in
+    record {
+      fits = written-fits k (drop at s) out;
+      within = omega arith;
+      on = read-some k (drop at s) out (omega arith) room;
+      kept =
+          ap (λ (t : List ℕ). keptBy (advanced k (drop at s) out .kept) (linesOf t)) (sym (drop-drop (advanced k (drop at s) out .read) at s))
+          ∙ kept-on k (drop at s) out;
+    }
+
+pub turn : (s : List ℕ) (at : ℕ) (k : Kept) (out : List ℕ) → at < length s → 33 ≤ length out → (r : Advanced)
+    → r ≡ advanced k (take (length s - at) (drop at s)) out → Turn s at k out r
+turn s at k out h room r e =
+    let p : r ≡ advanced k (drop at s) out =
+    e ∙ ap (λ (t : List ℕ). advanced k t out) (take-all (length s - at) (drop at s) (let l = length-drop at s in omega arith)) in
+    subst (Turn s at k out) (sym p) (turn-at s at k out h room)
+
+-- no line is left
+pub all-taken : (s : List ℕ) (at : ℕ) (k : Kept) → length s ≤ at → keptBy k (linesOf (drop at s)) ≡ k
+unfolding linesOf keptBy
+all-taken s at k h = rw (drop-of-length-le s h)

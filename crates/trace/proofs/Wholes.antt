@@ -1,0 +1,107 @@
+-- Whole lines of an input, and what follows them. Assumes nothing.
+use Prim.Native.Nat.{ℕ, zero, suc, _+_, _-_, _≤_, _<_}
+use mathlib.Core.Path.{_≡_, refl, sym, ap, _∙_}
+use mathlib.Core.Bool.{Bool, true, false, not, cond, _&&_}
+use mathlib.Core.List.{List, [], _∷_, _++_, append-assoc}
+use native.Mathlib.Omega.{arith}
+use borrow.Author.Tests.{eqb-true, eqb-false, ne-eqb, eq-eqb}
+use lib.Dec.{eqb}
+use lib.ListN.{length, take, drop, take-append-drop}
+use lib.Seq.{length-take-le}
+use Rattle.model.specs.Tools.{pick}
+use Rattle.text.specs.Lines.{onto, linesOf, firstLine, passed}
+use Rattle.text.proofs.Lines.{free, lines-cons}
+use Rattle.trace.specs.Arrivals.{wholeOf}
+
+-- how `wholeOf` goes on: no line feed follows and this byte is one, or none, or one follows
+data Case (b : ℕ) (s : List ℕ) : Type 0 where
+  here : wholeOf s ≡ 0 → b ≡ 10 → wholeOf (b ∷ s) ≡ 1 → Case b s
+  none : wholeOf s ≡ 0 → (b ≡ 10 → ⊥) → wholeOf (b ∷ s) ≡ 0 → Case b s
+  later : (wholeOf s ≡ 0 → ⊥) → wholeOf (b ∷ s) ≡ suc (wholeOf s) → Case b s
+
+cases : (b : ℕ) (s : List ℕ) → Case b s
+unfolding wholeOf
+cases b s = by (eqb (wholeOf s) 0) (eqb b 10) refl refl
+  where
+    by : (t u : Bool) → eqb (wholeOf s) 0 ≡ t → eqb b 10 ≡ u → Case b s
+    by true true e f = here (eqb-true _ _ e) (eqb-true _ _ f) (rw (e, f))
+    by true false e f = none (eqb-true _ _ e) (eqb-false _ _ f) (rw (e, f))
+    by false u e f = later (eqb-false _ _ e) (rw e)
+
+one-feed : (b : ℕ) → b ≡ 10 → wholeOf (b ∷ []) ≡ 1
+unfolding wholeOf
+one-feed b e = rw (eq-eqb b 10 e)
+
+none-none : wholeOf [] ≡ 0
+unfolding wholeOf
+none-none = refl
+
+feed-later : (b : ℕ) (s : List ℕ) → (wholeOf s ≡ 0 → ⊥) → wholeOf (b ∷ s) ≡ suc (wholeOf s)
+unfolding wholeOf
+feed-later b s h = rw (ne-eqb (wholeOf s) 0 h)
+
+-- the whole lines are whole, and no line feed follows them
+pub record Cut (s : List ℕ) : Type 0 where
+  pub within : wholeOf s ≤ length s
+  pub whole : wholeOf (take (wholeOf s) s) ≡ wholeOf s
+  pub rest : wholeOf (drop (wholeOf s) s) ≡ 0
+
+cut-cons : (b : ℕ) (s : List ℕ) → Cut s → Case b s → Cut (b ∷ s)
+cut-cons b s c (here e f w) = record { within = omega arith; whole = rw w (one-feed b f); rest = rw w e }
+cut-cons b s c (none e f w) = record { within = omega arith; whole = rw w none-none; rest = rw w w }
+cut-cons b s c (later e w) =
+    record {
+      within = let h = c .within in omega arith;
+      whole = rw w (feed-later b (take (wholeOf s) s) (λ z. e (sym (c .whole) ∙ z)) ∙ ap suc (c .whole));
+      rest = rw w (c .rest);
+    }
+
+pub cut : (s : List ℕ) → Cut s
+unfolding wholeOf
+cut [] = record { within = omega arith; whole = refl; rest = refl }
+cut (b ∷ s) = cut-cons b s (cut s) (cases b s)
+
+-- ---- lines after whole lines
+
+onto-append : (t : Bool) (x : ℕ) (l : List (List ℕ)) (p : List ℕ) (ps q : List (List ℕ)) → l ≡ p ∷ ps
+    → cond t ([] ∷ (l ++ q)) (onto x (l ++ q)) ≡ cond t ([] ∷ l) (onto x l) ++ q
+onto-append true x l p ps q e = refl
+onto-append false x l p ps q e = rw e
+
+pub lines-whole : (a b : List ℕ) → wholeOf a ≡ length a → linesOf (a ++ b) ≡ linesOf a ++ linesOf b
+unfolding linesOf
+lines-whole [] b h = refl
+lines-whole (x ∷ []) b h = one (cases x [])
+  where
+    one : Case x [] → linesOf (x ∷ b) ≡ linesOf (x ∷ []) ++ linesOf b
+    one (here e f w) = rw (eq-eqb x 10 f)
+    one (none e f w) = absurd (omega arith)
+    one (later e w) = absurd (e none-none)
+lines-whole (x ∷ y ∷ a) b h = more (cases x (y ∷ a)) (λ e. lines-whole (y ∷ a) b e)
+  where
+    more : Case x (y ∷ a) → (wholeOf (y ∷ a) ≡ length (y ∷ a) → linesOf (y ∷ (a ++ b)) ≡ linesOf (y ∷ a) ++ linesOf b)
+        → linesOf (x ∷ (y ∷ (a ++ b))) ≡ linesOf (x ∷ (y ∷ a)) ++ linesOf b
+    more (here e f w) i = absurd (omega arith)
+    more (none e f w) i = absurd (omega arith)
+    more (later e w) i =
+        ap (λ (l : List (List ℕ)). cond (eqb x 10) ([] ∷ l) (onto x l)) (i (omega arith))
+        ∙ onto-append (eqb x 10) x (linesOf (y ∷ a)) _ _ (linesOf b) (lines-cons a y)
+
+-- an input's whole lines, and what follows, with more after it
+pub lines-cut : (s r : List ℕ) → linesOf (s ++ r) ≡ linesOf (take (wholeOf s) s) ++ linesOf (drop (wholeOf s) s ++ r)
+lines-cut s r =
+    let c = cut s in
+    ap (λ (x : List ℕ). linesOf (x ++ r)) (sym (take-append-drop (wholeOf s) s))
+    ∙ ap linesOf (append-assoc (take (wholeOf s) s) (drop (wholeOf s) s) r)
+    ∙ lines-whole (take (wholeOf s) s) (drop (wholeOf s) s ++ r) (c .whole ∙ sym (length-take-le (wholeOf s) s (c .within)))
+
+-- bytes with no line feed
+pub no-feed : (s : List ℕ) → wholeOf s ≡ 0 → free 10 s ≡ true
+unfolding free
+no-feed [] h = refl
+no-feed (b ∷ s) h = by (cases b s) (λ e. no-feed s e)
+  where
+    by : Case b s → (wholeOf s ≡ 0 → free 10 s ≡ true) → not (eqb b 10) && free 10 s ≡ true
+    by (here e f w) i = absurd (omega arith)
+    by (none e f w) i = rw (ne-eqb b 10 f, i e)
+    by (later e w) i = absurd (omega arith)

@@ -1,0 +1,4 @@
+pub mod Program
+pub mod Chunks
+pub mod Arrivals
+pub mod Parts

@@ -1,0 +1,77 @@
+// Before the first line, and the first line.
+use crate::kept::Advanced;
+use crate::kept::Kept;
+use model::events::Answer;
+use model::events::Stepped;
+ghost use mathlib.Core.Bool.{true, false};
+ghost use mathlib.Core.Path.{_≡_};
+ghost use Rattle.trace.specs.Chunks.{advanced, outAfter};
+ghost use Rattle.trace.specs.Program.{nothingKept};
+ghost use Rattle.trace.specs.Parts.{startFields};
+
+// What is kept before the first line.
+pub fn unstarted() -> Kept
+    ensures { λ r. ⌜ r ≡ nothingKept ⌝ }
+{
+    let zero = model::start(0, 0, 0);
+    let state = zero.state;
+    Kept {
+        started: false,
+        state,
+    }
+}
+
+// The start line with so many numbers.
+fn start_line(count: usize, words: [u32; 8]) -> Stepped
+    ensures { λ r. ⌜ r ≡ startFields count words ⌝ }
+{
+    if count == 3 {
+        return model::start(words[0], words[1], words[2]);
+    }
+    let zero = model::start(0, 0, 0);
+    let state = zero.state;
+    Stepped {
+        state,
+        answer: Answer {
+            number: 22,
+            word: 0,
+            slot: 64,
+        },
+    }
+}
+
+// The first line of `s`, if there is one, and room for its answer.
+pub(crate) fn begin(kept: Kept, s: &[u8], out: &mut [u8]) -> Advanced
+    requires { ⌜ kept .started ≡ false ⌝ }
+    ensures { λ r. ⌜ r ≡ advanced kept (now (s .entry)) (now (out .entry)) ⌝ }
+    ensures { λ _. ⌜ now (out .exit) ≡ outAfter kept (now (s .entry)) (now (out .entry)) ⌝ }
+{
+    if s.len() == 0 {
+        return Advanced {
+            kept,
+            read: 0,
+            written: 0,
+        };
+    }
+    if out.len() < 33 {
+        return Advanced {
+            kept,
+            read: 0,
+            written: 0,
+        };
+    }
+    let t = text::take(s, 0);
+    let words = t.words;
+    let r = start_line(t.count, words);
+    let a = r.answer;
+    let written = text::write(out, 0, a.number, a.word, a.slot);
+    let state = r.state;
+    Advanced {
+        kept: Kept {
+            started: true,
+            state,
+        },
+        read: t.next,
+        written,
+    }
+}
