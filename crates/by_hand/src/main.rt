@@ -1,0 +1,92 @@
+// States made by hand, some of which no start reaches, each beside a neighbour: what a step answers, one line for each.
+use model::cells::Cell;
+use model::cells::Want;
+use model::events::Answer;
+use model::events::Event;
+use model::numbers::Count;
+use model::states::State;
+
+fn cell(tokens: u8, mark: bool, backup: bool, want: Want, word: u32) -> Cell {
+    Cell {
+        tokens: Count(tokens),
+        valid: mark,
+        owner: mark,
+        blocked: false,
+        backup,
+        want,
+        word: if mark { word } else { 0 },
+        saved: if backup { word } else { 0 },
+    }
+}
+
+fn event(kind: u32, node: u32) -> Event {
+    Event {
+        kind,
+        line: 0,
+        node,
+        other: 0,
+        amount: 0,
+        owner: 0,
+        full: 0,
+        word: 0,
+    }
+}
+
+// Number, word and slot with spaces between, and a line feed.
+fn show(a: Answer) {
+    io::print_decimal(1, a.number as u64);
+    io::write_all(1, b" ");
+    io::print_decimal(1, a.word as u64);
+    io::write_all(1, b" ");
+    io::print_decimal(1, a.slot as u64);
+    io::write_all(1, b"\n");
+}
+
+// Two caches and one line of three tokens, with these two cells for cache 0 and the memory.
+fn with_two(first: Cell, memory: Cell) -> State {
+    let fresh = model::start(2, 1, 3);
+    let mut s = fresh.state;
+    s.cells[0] = first;
+    s.cells[2] = memory;
+    s
+}
+
+fn said(s: State, e: Event) {
+    let r = model::step(s, e);
+    show(r.answer);
+}
+
+fn main() {
+    let none = cell(0, false, false, Want::Nothing, 0);
+    let idle = cell(0, false, false, Want::Read, 0);
+    // cache 0 holds all three tokens and the memory none: well formed, the read is done
+    said(
+        with_two(cell(3, true, false, Want::Nothing, 7), none),
+        event(0, 0),
+    );
+    // four tokens where N is three: not well formed
+    said(
+        with_two(cell(4, true, false, Want::Nothing, 7), none),
+        event(0, 0),
+    );
+    // three tokens in the cache and one in the memory: no cell has too many, but the line has
+    said(
+        with_two(
+            cell(3, true, false, Want::Nothing, 7),
+            cell(1, false, false, Want::Nothing, 0),
+        ),
+        event(0, 0),
+    );
+    // the memory has a want: not well formed
+    said(
+        with_two(cell(3, true, false, Want::Nothing, 7), idle),
+        event(0, 0),
+    );
+    // cache 0 wants to read and the line has a backup at the memory: recreated, and the read gives its word
+    let kept = with_two(idle, cell(0, false, true, Want::Nothing, 9));
+    said(kept, event(7, 0));
+    let after = model::step(kept, event(7, 0));
+    said(after.state, event(0, 0));
+    // no owner, no valid cell and no backup on the line: 18
+    said(with_two(idle, none), event(7, 0));
+}
