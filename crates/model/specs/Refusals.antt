@@ -9,37 +9,47 @@ use Rattle.model.specs.States.{cellAt, slotAt, serialAt, isFree, bears}
 use Rattle.model.specs.WellFormed.{wellFormed}
 use Rattle.model.specs.Cells.{isNothing, ableToRead, ableToWrite}
 
--- the kinds of event
+-- kind 0: read
 abbrev pub reading : ℕ → Bool
 reading k = eqb k 0
 
+-- kind 1: write
 abbrev pub writing : ℕ → Bool
 writing k = eqb k 1
 
+-- kind 2: send tokens
 abbrev pub sending : ℕ → Bool
 sending k = eqb k 2
 
+-- kind 3: deliver
 abbrev pub delivering : ℕ → Bool
 delivering k = eqb k 3
 
+-- kind 4: drop
 abbrev pub dropping : ℕ → Bool
 dropping k = eqb k 4
 
+-- kind 5: want to read
 abbrev pub wantingRead : ℕ → Bool
 wantingRead k = eqb k 5
 
+-- kind 6: want to write
 abbrev pub wantingWrite : ℕ → Bool
 wantingWrite k = eqb k 6
 
+-- kind 7: lost token timeout
 abbrev pub lostToken : ℕ → Bool
 lostToken k = eqb k 7
 
+-- kind 8: lost data timeout
 abbrev pub lostData : ℕ → Bool
 lostData k = eqb k 8
 
+-- kind 9: lost backup deletion acknowledgment timeout
 abbrev pub lostDeletionAck : ℕ → Bool
 lostDeletionAck k = eqb k 9
 
+-- kinds 7, 8, 9: a timeout
 abbrev pub timeout : ℕ → Bool
 timeout k = lostToken k || lostData k || lostDeletionAck k
 
@@ -80,11 +90,12 @@ unfoldable pub copyless : (ℕ → Cell) → Bool
 copyless cells =
     eqb (lowest cells (λ c. c .owner)) 9 && eqb (lowest cells (λ c. c .valid)) 9 && eqb (lowest cells (λ c. c .backup)) 9
 
--- a row of the table: a number, and whether it applies
+-- a number of the table, and whether it applies
 pub record Row : Type 0 where
   pub number : ℕ
   pub applies : Bool
 
+-- the row of a number
 abbrev pub row : ℕ → Bool → Row
 row n b = record { number = n; applies = b }
 

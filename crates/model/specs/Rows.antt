@@ -18,6 +18,7 @@ cellRows z e k x rest =
     ∷ row 5 (forCaches k && eqb (e .node) (z .caches))
     ∷ ownRows k (z .total .0) x rest
 
+-- its number
 unfoldable pub cellRefusal : Sizes → Event → ℕ → Cell → ℕ
 cellRefusal z e k x = given (cellRows z e k x [])
 
@@ -35,5 +36,6 @@ sendRows z e x i =
     ∷ row 12 (eqb i 64)
     ∷ []
 
+-- its number
 unfoldable pub sendRefusal : Sizes → Event → Cell → ℕ → ℕ
 sendRefusal z e x i = given (sendRows z e x i)

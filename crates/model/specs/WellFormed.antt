@@ -120,19 +120,23 @@ borne m = m .tokens .0
 unfoldable pub tokensOf : State → ℕ → ℕ
 tokensOf s line = inCells s line held + inMessages s line borne
 
--- the tests of a whole state: at a line's serial, at a cell, at a line's nine cells, at a slot, at a line's tokens
+-- a line's serial, in a state
 abbrev pub serialFineAt : State → ℕ → Bool
 serialFineAt s line = serialFine (s .sizes) line (serialAt s line)
 
+-- a node's cell of a line, in a state
 abbrev pub cellFineAt : State → ℕ → ℕ → Bool
 cellFineAt s line node = cellFine (s .sizes) line node (cellAt s line node)
 
+-- the nine cells of a line
 abbrev pub lineFine : State → ℕ → Bool
 lineFine s line = allTo 9 (cellFineAt s line)
 
+-- a slot, in a state
 abbrev pub slotFine : State → ℕ → Bool
 slotFine s i = messageFine (s .sizes) (slotAt s i) (slotAt s i .kind)
 
+-- a line's tokens are at most n
 abbrev pub withinTotal : State → ℕ → Bool
 withinTotal s line = leb (tokensOf s line) (s .sizes .total .0)
 

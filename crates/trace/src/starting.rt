@@ -13,8 +13,8 @@ ghost use Rattle.trace.specs.Parts.{startFields};
 pub fn unstarted() -> Kept
     ensures { λ r. ⌜ r ≡ nothingKept ⌝ }
 {
-    let zero = model::start(0, 0, 0);
-    let state = zero.state;
+    let refused = model::start(0, 0, 0);
+    let state = refused.state;
     Kept {
         started: false,
         state,
@@ -28,8 +28,8 @@ fn start_line(count: usize, words: [u32; 8]) -> Stepped
     if count == 3 {
         return model::start(words[0], words[1], words[2]);
     }
-    let zero = model::start(0, 0, 0);
-    let state = zero.state;
+    let refused = model::start(0, 0, 0);
+    let state = refused.state;
     Stepped {
         state,
         answer: Answer {
