@@ -28,8 +28,8 @@ fn start_line(count: usize, words: [u32; 8]) -> Stepped
     if count == 3 {
         return model::start(words[0], words[1], words[2]);
     }
-    let refused = model::start(0, 0, 0);
-    let state = refused.state;
+    let zero = model::start(0, 0, 0);
+    let state = zero.state;
     Stepped {
         state,
         answer: Answer {
