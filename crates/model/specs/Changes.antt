@@ -1,33 +1,22 @@
 -- What an event leaves in the one cell and the one slot that it touches, and its answer; cited by private functions alone. Assumes nothing.
 use Prim.Native.Nat.{ℕ}
-use mathlib.Core.Bool.{Bool, _&&_, _||_, not}
+use mathlib.Core.Bool.{Bool, _||_, not}
 use lib.Dec.{eqb}
-use Rattle.model.specs.Types.{Cell, Read, Write, MessageKind, Free, Tokens, OwnershipAck, DeletionAck, Message, Sizes, Event, Answer}
-use Rattle.model.specs.declared.changes.CellChange.{CellChange}
+use Rattle.model.specs.Types.{Want, Read, Write, Cell, MessageKind, Free, Tokens, OwnershipAck, DeletionAck, Message, Event, Answer}
 use Rattle.model.specs.declared.changes.SlotChange.{SlotChange}
 use Rattle.model.specs.Tools.{pick}
 use Rattle.model.specs.Cells.{withWant, written, received, unbacked, unblocked, settled}
 use Rattle.model.specs.States.{freeMessage, isFree}
-use Rattle.model.specs.Refusals.{reading, writing, wantingRead, dropping}
+use Rattle.model.specs.Refusals.{writing, dropping, wantingRead, wantingWrite}
 use Rattle.model.specs.Effects.{answer, ack}
-use Rattle.model.specs.Rows.{cellRefusal}
 
--- a cell with an answer
-abbrev pub touched : Cell → Answer → CellChange
-touched x a = record { cell = x; answer = a }
+-- the want after an event of kind k
+unfoldable pub wantedBy : ℕ → Want → Want
+wantedBy k w = pick (wantingRead k) Read (pick (wantingWrite k) Write w)
 
--- an accepted read, write or want
-unfoldable pub touchBy : Event → ℕ → Cell → CellChange
-touchBy e k x =
-    pick (reading k) (touched x (answer 0 (x .word) 64))
-    (pick (writing k) (touched (written (e .word) x) (answer 0 0 64))
-    (pick (wantingRead k) (touched (withWant Read x) (answer 0 0 64))
-    (touched (withWant Write x) (answer 0 0 64))))
-
--- a read, a write or a want, refused or not
-unfoldable pub touchOf : Sizes → Event → ℕ → Cell → CellChange
-touchOf z e k x =
-    pick (eqb (cellRefusal z e k x) 0) (touchBy e k x) (touched x (answer (cellRefusal z e k x) 0 64))
+-- the cell after an accepted read, write or want
+unfoldable pub touchedCell : Event → ℕ → Cell → Cell
+touchedCell e k x = withWant (wantedBy k (x .want)) (written (pick (writing k) (e .word) (x .word)) x)
 
 -- a cell with the kind of what then stands in the slot, and an answer
 abbrev pub arrived : Cell → MessageKind → Answer → SlotChange
@@ -37,17 +26,17 @@ arrived x k a = record { cell = x; reply = k; answer = a }
 abbrev pub discarded : Cell → SlotChange
 discarded x = arrived x Free (answer 0 0 64)
 
--- a message of the line's serial is delivered from slot i, by its kind; a slot that is free is refused
+-- a message of the line's serial is delivered from slot i, by its kind
 unfoldable pub arriveBy : ℕ → ℕ → Cell → Message → MessageKind → SlotChange
-arriveBy n i x m Free = arrived x Free (answer 6 0 64)
+arriveBy n i x m Free = discarded x
 arriveBy n i x m Tokens =
     arrived (settled n (received m x)) (pick (m .owner) OwnershipAck Free) (answer 0 1 (pick (m .owner) i 64))
 arriveBy n i x m OwnershipAck = pick (x .backup) (arrived (unbacked x) DeletionAck (answer 0 1 i)) (discarded x)
 arriveBy n i x m DeletionAck = pick (x .blocked) (arrived (unblocked x) Free (answer 0 1 64)) (discarded x)
 
--- a drop, or a message whose serial is not the line's serial q; a slot that is free is refused
+-- a drop, or a message whose serial is not the line's serial q
 unfoldable pub lost : ℕ → ℕ → Message → Bool
-lost k q m = not (isFree (m .kind)) && (dropping k || not (eqb (m .serial .0) q))
+lost k q m = dropping k || not (eqb (m .serial .0) q)
 
 -- a delivery or a drop of a slot that holds m, at the cell x that m is for
 unfoldable pub arriveOf : ℕ → ℕ → Event → ℕ → Cell → Message → SlotChange

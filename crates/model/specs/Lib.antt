@@ -13,4 +13,4 @@ pub mod Rows
 pub mod Changes
 pub mod Needs
 pub mod Nines
-pub mod Pools
+pub mod Tags

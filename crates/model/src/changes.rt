@@ -5,7 +5,7 @@ ghost use Rattle.model.specs.Types.{Tokens as TokenMessage};
 ghost use Rattle.model.specs.Cells.{fill, received};
 ghost use Rattle.model.specs.Tools.{when};
 ghost use Rattle.model.specs.Effects.{answer as answerOf, ack as ackOf, sentMessage, sentCell};
-ghost use Rattle.model.specs.Changes.{touchBy, touchOf, discarded as discardedOf, arriveBy, arriveOf, lost as lostOf, replyOf};
+ghost use Rattle.model.specs.Changes.{wantedBy, touchedCell, discarded as discardedOf, arriveBy, arriveOf, lost as lostOf, replyOf};
 ghost use Rattle.model.specs.Needs.{Sendable};
 use crate::cells::Cell;
 use crate::cells::Want;
@@ -17,15 +17,7 @@ use crate::messages::MessageKind;
 use crate::moves::either;
 use crate::numbers::Count;
 use crate::numbers::Serial;
-use crate::refusals::cell_refusal;
 use crate::starts::free_message;
-use crate::states::Sizes;
-
-// What a read, a write or a want leaves.
-pub(crate) struct CellChange {
-    pub cell: Cell,
-    pub answer: Answer,
-}
 
 // What a delivery or a drop leaves: `reply` is the kind of what then stands in the slot.
 pub(crate) struct SlotChange {
@@ -40,44 +32,26 @@ pub(crate) fn answer(number: u32, word: u32, slot: u32) -> Answer
     Answer { number, word, slot }
 }
 
-// A read, a write or a want that is accepted.
-fn touch(e: Event, x: Cell) -> CellChange
-    ensures { λ r. ⌜ r ≡ touchBy e (e .kind) x ⌝ }
+// The want after an event of the kind.
+fn wanted(kind: u32, want: Want) -> Want
+    ensures { λ r. ⌜ r ≡ wantedBy kind want ⌝ }
 {
-    let kind = e.kind;
     match kind {
-        0 => CellChange {
-            cell: x,
-            answer: answer(0, x.word, 64),
-        },
-        1 => CellChange {
-            cell: x.write(e.word),
-            answer: answer(0, 0, 64),
-        },
-        5 => CellChange {
-            cell: x.wish(Want::Read),
-            answer: answer(0, 0, 64),
-        },
-        _ => CellChange {
-            cell: x.wish(Want::Write),
-            answer: answer(0, 0, 64),
-        },
+        5 => Want::Read,
+        6 => Want::Write,
+        _ => want,
     }
 }
 
-// A read, a write or a want.
-pub(crate) fn touched(z: Sizes, e: Event, x: Cell) -> CellChange
-    ensures { λ r. ⌜ r ≡ touchOf z e (e .kind) x ⌝ }
+// The cell after a read, a write or a want that is accepted. No branch, so that only the word and the want are stored.
+pub(crate) fn touch(e: Event, x: Cell) -> Cell
+    ensures { λ r. ⌜ r ≡ touchedCell e (e .kind) x ⌝ }
 {
-    let number = cell_refusal(z, e, x);
-    if number == 0 {
-        touch(e, x)
-    } else {
-        CellChange {
-            cell: x,
-            answer: answer(number, 0, 64),
-        }
-    }
+    let now = x.want;
+    let want = wanted(e.kind, now);
+    let word = either(e.kind == 1, e.word, x.word);
+    let y = x.write(word);
+    y.wish(want)
 }
 
 // The message that a send puts into the pool.
@@ -170,11 +144,7 @@ fn arrive(n: Count, i: u32, x: Cell, m: Message) -> SlotChange
 {
     let kind = m.kind;
     match kind {
-        MessageKind::Free => SlotChange {
-            cell: x,
-            reply: MessageKind::Free,
-            answer: answer(6, 0, 64),
-        },
+        MessageKind::Free => discarded(x),
         MessageKind::Tokens => arrive_tokens(n, i, x, m),
         MessageKind::OwnershipAck => {
             if x.backup {
@@ -205,9 +175,8 @@ fn arrive(n: Count, i: u32, x: Cell, m: Message) -> SlotChange
 fn lost(kind: u32, q: Serial, m: Message) -> bool
     ensures { λ r. ⌜ r ≡ lostOf kind (q .0) m ⌝ }
 {
-    let holds = m.kind;
     let serial = m.serial;
-    !is_free(holds) & ((kind == 4) | !(serial.0 == q.0))
+    (kind == 4) | !(serial.0 == q.0)
 }
 
 // A delivery or a drop of a slot that holds m, at the cell that m is for; q is the line's serial.

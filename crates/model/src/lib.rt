@@ -14,6 +14,7 @@ mod runs;
 mod starts;
 pub mod states;
 mod steps;
+mod tags;
 mod tallies;
 
 pub use starts::start;

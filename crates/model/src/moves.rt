@@ -1,7 +1,7 @@
 // The ways in which a cell changes (document 01, "What each event does"), each a method that returns the cell.
 ghost use mathlib.Core.Path.{_≡_};
 ghost use Prim.Native.Nat.{_+_, _≤_, _<_};
-ghost use Rattle.model.specs.Cells.{ableToRead, ableToWrite, served, give as given, take as taken, fill as filled, block as blockedNow, backUp, unbacked, unblocked, cleared, recreated, written, withWant, settled};
+ghost use Rattle.model.specs.Cells.{ableToRead, ableToWrite, served, give as given, take as taken, fill as filled, block as blockedNow, backUp, unbacked, unblocked, cleared, recreated, written, withWant, wantAfter, settled};
 ghost use Rattle.model.specs.Tools.{pick};
 use crate::cells::Cell;
 use crate::cells::Want;
@@ -169,13 +169,21 @@ impl Cell {
     }
 
     // The want ends if the cell can do what it wants.
+    fn want_left(self, n: Count) -> Want
+        ensures { λ r. ⌜ r ≡ wantAfter (n .0) self ⌝ }
+    {
+        let want = self.want;
+        if self.is_served(n) {
+            Want::Nothing
+        } else {
+            want
+        }
+    }
+
     pub(crate) fn settle(self, n: Count) -> Cell
         ensures { λ r. ⌜ r ≡ settled (n .0) self ⌝ }
     {
-        if self.is_served(n) {
-            self.wish(Want::Nothing)
-        } else {
-            self
-        }
+        let want = self.want_left(n);
+        self.wish(want)
     }
 }

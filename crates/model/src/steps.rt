@@ -4,8 +4,8 @@ ghost use Prim.Native.Nat.{_*_, _≤_};
 ghost use lib.ListN.{length, replicate};
 ghost use lib.Seq.{sets};
 ghost use Rattle.model.specs.Effects.{answer as answerOf, stepOf};
-ghost use Rattle.model.specs.Runs.{wordsOf, batchOf, batchAnswers};
-ghost use Rattle.model.specs.Pools.{batchedOf};
+ghost use Rattle.model.specs.Runs.{eventsTo, runOf, answersOf, wordsOf, batchOf, batchAnswers};
+ghost use Rattle.model.specs.Tags.{batchedOf};
 use crate::changes::answer;
 use crate::events::Batched;
 use crate::events::Event;
@@ -14,35 +14,6 @@ use crate::runs::put;
 use crate::runs::run;
 use crate::states::State;
 use crate::tallies::well_formed;
-
-// One step, of any state and any event record.
-pub fn step(s: State, e: Event) -> Stepped
-    ensures { λ r. ⌜ r ≡ stepOf s e ⌝ }
-{
-    if well_formed(s) {
-        let words = [
-            e.kind,
-            e.line,
-            e.node,
-            e.other,
-            e.amount,
-            e.owner,
-            e.full,
-            e.word,
-        ];
-        let mut out = [0u32; 3];
-        let after = run(s, 1, &words, &mut out);
-        Stepped {
-            state: after,
-            answer: answer(out[0], out[1], out[2]),
-        }
-    } else {
-        Stepped {
-            state: s,
-            answer: answer(1, 0, 64),
-        }
-    }
-}
 
 // Each of n events answers 1.
 fn refuse_all(n: usize, answers: &mut [u32])
@@ -53,6 +24,40 @@ fn refuse_all(n: usize, answers: &mut [u32])
     while i < n {
         put(answers, i * 3, answer(1, 0, 64));
         i += 1;
+    }
+}
+
+// A run over any state: one that is not well formed answers 1 to each event.
+fn run_any(s: State, n: usize, events: &[u32], answers: &mut [u32]) -> State
+    requires { ⌜ (n * 8 ≤ length (now events)) × (n * 3 ≤ length (now answers)) ⌝ }
+    ensures { λ r. ⌜ (r ≡ runOf s (eventsTo n (now (events .entry)))) × (now (answers .exit) ≡ sets (now (answers .entry)) 0 (wordsOf (answersOf s (eventsTo n (now (events .entry)))))) ⌝ }
+{
+    if well_formed(s) {
+        return run(s, n, events, answers);
+    }
+    refuse_all(n, answers);
+    s
+}
+
+// One step, of any state and any event record.
+pub fn step(s: State, e: Event) -> Stepped
+    ensures { λ r. ⌜ r ≡ stepOf s e ⌝ }
+{
+    let words = [
+        e.kind,
+        e.line,
+        e.node,
+        e.other,
+        e.amount,
+        e.owner,
+        e.full,
+        e.word,
+    ];
+    let mut out = [0u32; 3];
+    let after = run_any(s, 1, &words, &mut out);
+    Stepped {
+        state: after,
+        answer: answer(out[0], out[1], out[2]),
     }
 }
 
@@ -78,11 +83,6 @@ pub fn batch(s: State, events: &[u32], answers: &mut [u32]) -> Batched
     if answers.len() / 3 < count {
         return batched(21, s, 0);
     }
-    if well_formed(s) {
-        let ran = run(s, count, events, answers);
-        batched(0, ran, count)
-    } else {
-        refuse_all(count, answers);
-        batched(0, s, count)
-    }
+    let ran = run_any(s, count, events, answers);
+    batched(0, ran, count)
 }

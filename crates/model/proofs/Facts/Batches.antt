@@ -13,7 +13,7 @@ use Rattle.model.specs.WellFormed.{wellFormed}
 use Rattle.model.specs.Refusals.{refusal, table, given}
 use Rattle.model.specs.Effects.{answer, answered, stepOf}
 use Rattle.model.specs.Runs.{runOf, answersOf, wordsOf, eventsTo, eventsOf, countOf, batchNumber, batchOf, batchAnswers}
-use Rattle.model.specs.Pools.{batchedOf}
+use Rattle.model.specs.Tags.{batchedOf}
 use Rattle.model.proofs.Facts.Running.{refusals}
 
 -- the words of an event record
@@ -33,7 +33,7 @@ module _ (s : State) (ill : wellFormed s ≡ false) where
   unfolding refusal table given
   ill-number e = rw ill
 
-  pub ill-step : (e : Event) → stepOf s e ≡ answered s 1 0 64
+  ill-step : (e : Event) → stepOf s e ≡ answered s 1 0 64
   unfolding stepOf
   ill-step e = rw (ill-number e)
 
@@ -63,6 +63,14 @@ unfolding wordsOf
 words-long [] = refl
 words-long (a ∷ answers) = let h = words-long answers in omega arith
 
+-- a run that answers 1 to each event is the run over such a state
+pub ill-ran : (s : State) → wellFormed s ≡ false → (n : ℕ) (ws o : List ℕ) {o′ : List ℕ} → o′ ≡ sets o 0 (refusals n)
+    → (s ≡ runOf s (eventsTo n ws)) × (o′ ≡ sets o 0 (wordsOf (answersOf s (eventsTo n ws))))
+ill-ran s ill n ws o h = (
+  sym (ill-run s ill (eventsTo n ws)),
+  h ∙ ap (λ answers. sets o 0 (wordsOf answers)) (sym (ill-answers s ill (eventsTo n ws) ∙ ap (λ n. replicate n (answer 1 0 64)) (events-long n ws))),
+)
+
 module _ (s : State) (ws o : List ℕ) where
   pub batch-20 : (length ws % 8 ≡ 0 → ⊥) → {r : Batched} → r ≡ batchedOf 20 s 0 → (r ≡ batchOf s ws o) × (o ≡ batchAnswers s ws o)
   unfolding batchNumber batchOf batchAnswers
@@ -91,10 +99,3 @@ module _ (s : State) (ws o : List ℕ) where
           → r ≡ batchedOf 0 t (length ws / 8) → (r ≡ batchOf s ws o) × (o′ ≡ batchAnswers s ws o)
       unfolding batchOf
       batch-ran ht ho hr = (rw (hr, ht, taken), ho ∙ written)
-
-      pub batch-ill : wellFormed s ≡ false → {o′ : List ℕ} {r : Batched} → o′ ≡ sets o 0 (refusals (length ws / 8)) → r ≡ batchedOf 0 s (length ws / 8)
-          → (r ≡ batchOf s ws o) × (o′ ≡ batchAnswers s ws o)
-      batch-ill ill ho hr =
-          batch-ran (sym (ill-run s ill (eventsOf ws)))
-          (ho ∙ ap (λ answers. sets o 0 (wordsOf answers)) (sym (ill-answers s ill (eventsOf ws) ∙ ap (λ n. replicate n (answer 1 0 64)) (events-long (countOf ws) ws))))
-          hr

@@ -23,6 +23,10 @@ given-onto (r ∷ rs) rest h =
     let p = and-both (ltb 0 (r .number)) (numbered rs) h in
     split (r .applies) (λ t. rw (t, ne-eqb (r .number) 0 (λ z. omega (arith, ltb-true 0 (r .number) (p .0))))) (λ f. rw f (given-onto rs rest (p .1)))
 
+-- where one of them applies the others do not matter
+pub given-stops : (rs rest : List Row) → numbered rs ≡ true → {n : ℕ} → given rs ≡ n → (n ≡ 0 → ⊥) → given (rs ++ rest) ≡ n
+given-stops rs rest h {n} g d = given-onto rs rest h ∙ rw (g, ne-eqb n 0 d)
+
 module _ (s : State) (e : Event) (w : wellFormed s ≡ true) where
   -- the table without its first row
   past : {n : ℕ} → given (table s e (e .kind)) ≡ pick (not (wellFormed s)) 1 n → refusal s e ≡ n

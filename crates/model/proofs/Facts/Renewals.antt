@@ -34,10 +34,3 @@ module _ (cells : ℕ → Cell) {o : ℕ} (ho : o ≡ lowest cells (λ c. c .own
       pub word-none : 9 ≤ b → 0 ≡ wordFor cells
       unfolding wordFor
       word-none l = rw (← ho, le-ltb o 9 no, ← hv, le-ltb v 9 nv, ← hb, le-ltb b 9 l)
-
--- the nine cells filled in
-pub all-renewed : (first n node : ℕ) (nine l : List Cell) {j word : ℕ} {cs : List Cell} → j ≡ 9 → word ≡ wordFor (nth nine)
-    → cs ≡ fillTo j first (λ k. renewedOf (eqb k node) n word (nth nine k)) l
-    → cs ≡ fillTo 9 first (afterRecreation n node (wordFor (nth nine)) (nth nine)) l
-unfolding afterRecreation renewedOf
-all-renewed first n node nine l e h p = rw (e, h) at p

@@ -11,7 +11,7 @@ use Rattle.model.specs.Types.{Sizes, State, Event, Answer}
 use Rattle.model.specs.WellFormed.{wellFormed}
 use Rattle.model.specs.Effects.{answer, stepOf}
 use Rattle.model.specs.Runs.{runOf, answersOf, wordsOf, eventOf, eventsTo}
-use Rattle.model.specs.Pools.{Marked, answerSet}
+use Rattle.model.specs.Tags.{Tagged, answerSet}
 use Rattle.model.proofs.Laws.Views.{Sized}
 use Rattle.model.proofs.Keeps.Shapes.{step-keeps-sized, step-keeps-sizes}
 use Rattle.model.proofs.Keeps.Steps.{step-keeps-well-formed}
@@ -55,35 +55,35 @@ sets-more o i a ws =
     rw (p, add-one (i * 3), add-two (i * 3))
 
 -- where the loop is
-pub record Running (n : ℕ) (ws o₀ : List ℕ) (s : State) (z : Sizes) (o : List ℕ) (t : State) (used : List ℕ) (i : ℕ) : Type 0 where
+pub record Running (n : ℕ) (ws o₀ : List ℕ) (s : State) (z : Sizes) (o : List ℕ) (t : State) (tags : List ℕ) (i : ℕ) : Type 0 where
   pub within : i ≤ n
   pub long : length o ≡ length o₀
   pub sized : Sized t
   pub well : wellFormed t ≡ true
   pub sizes : z ≡ t .sizes
-  pub marked : Marked used (t .pool)
-  pub marks : length used ≡ 64
+  pub tagged : Tagged tags (t .pool)
+  pub slots : length tags ≡ 64
   pub states : runOf t (rest n ws i) ≡ runOf s (eventsTo n ws)
   pub answers : sets o (i * 3) (wordsOf (answersOf t (rest n ws i))) ≡ sets o₀ 0 (wordsOf (answersOf s (eventsTo n ws)))
 
-pub begins : (n : ℕ) (ws o : List ℕ) (s : State) {used : List ℕ} → Sized s → wellFormed s ≡ true → Marked used (s .pool) → length used ≡ 64 → Running n ws o s (s .sizes) o s used 0
+pub begins : (n : ℕ) (ws o : List ℕ) (s : State) {tags : List ℕ} → Sized s → wellFormed s ≡ true → Tagged tags (s .pool) → length tags ≡ 64 → Running n ws o s (s .sizes) o s tags 0
 begins n ws o s a b c d =
-    record { within = omega arith; long = refl; sized = a; well = b; sizes = refl; marked = c; marks = d; states = ap (runOf s) (rest-all n ws); answers = ap (λ es. sets o 0 (wordsOf (answersOf s es))) (rest-all n ws) }
+    record { within = omega arith; long = refl; sized = a; well = b; sizes = refl; tagged = c; slots = d; states = ap (runOf s) (rest-all n ws); answers = ap (λ es. sets o 0 (wordsOf (answersOf s es))) (rest-all n ws) }
 
 -- a turn
-pub goes-on : {n : ℕ} {ws o₀ : List ℕ} {s : State} {z : Sizes} {o : List ℕ} {t : State} {used : List ℕ} {i : ℕ} → Running n ws o₀ s z o t used i → i < n
-    → {e : Event} → e ≡ eventOf (drop (i * 8) ws) → {u : State} {a : Answer} {marks : List ℕ} → Turned t e u a marks
-    → {o′ : List ℕ} → o′ ≡ answerSet o (i * 3) a → Running n ws o₀ s z o′ u marks (i + 1)
+pub goes-on : {n : ℕ} {ws o₀ : List ℕ} {s : State} {z : Sizes} {o : List ℕ} {t : State} {tags : List ℕ} {i : ℕ} → Running n ws o₀ s z o t tags i → i < n
+    → {e : Event} → e ≡ eventOf (drop (i * 8) ws) → {u : State} {a : Answer} {tags′ : List ℕ} → Turned t e u a tags′
+    → {o′ : List ℕ} → o′ ≡ answerSet o (i * 3) a → Running n ws o₀ s z o′ u tags′ (i + 1)
 unfolding runOf answersOf wordsOf
-goes-on {n} {ws} {o₀} {s} {z} {o} {t} {used} {i} r l {e} he {u} {a} {marks} d {o′} ho =
+goes-on {n} {ws} {o₀} {s} {z} {o} {t} {tags} {i} r l {e} he {u} {a} {tags′} d {o′} ho =
     record {
       within = omega arith;
       long = rw ho (simp length-set (r .long));
       sized = rw (d .state) (step-keeps-sized t (r .sized) e);
       well = rw (d .state) (step-keeps-well-formed t (r .sized) (r .well) e);
       sizes = rw (d .state) (r .sizes ∙ sym (step-keeps-sizes t e));
-      marked = d .marked;
-      marks = d .marks;
+      tagged = d .tagged;
+      slots = d .slots;
       states = rw (d .state, he) (sym (ap (runOf t) (rest-more n ws i l)) ∙ r .states);
       answers =
           rw (ho, d .state, d .answer, he)
@@ -91,10 +91,10 @@ goes-on {n} {ws} {o₀} {s} {z} {o} {t} {used} {i} r l {e} he {u} {a} {marks} d 
     }
 
 -- the end
-pub ends : {n : ℕ} {ws o₀ : List ℕ} {s : State} {z : Sizes} {o : List ℕ} {t : State} {used : List ℕ} {i : ℕ} → Running n ws o₀ s z o t used i → i ≡ n
+pub ends : {n : ℕ} {ws o₀ : List ℕ} {s : State} {z : Sizes} {o : List ℕ} {t : State} {tags : List ℕ} {i : ℕ} → Running n ws o₀ s z o t tags i → i ≡ n
     → (t ≡ runOf s (eventsTo n ws)) × (o ≡ sets o₀ 0 (wordsOf (answersOf s (eventsTo n ws))))
 unfolding runOf answersOf wordsOf
-ends {n} {ws} {o₀} {s} {z} {o} {t} {used} {i} r h = (rw (rest-none n ws i h) at (r .states), rw (rest-none n ws i h) at (r .answers))
+ends {n} {ws} {o₀} {s} {z} {o} {t} {tags} {i} r h = (rw (rest-none n ws i h) at (r .states), rw (rest-none n ws i h) at (r .answers))
 
 -- the loop that refuses every event
 abbrev pub refusals : ℕ → List ℕ

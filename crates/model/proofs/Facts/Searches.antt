@@ -1,19 +1,23 @@
 -- What a search finds depends on what it looks at alone. Assumes nothing.
 use Prim.Native.Nat.{ℕ, zero, suc, _+_, _*_, _≤_, _<_}
-use mathlib.Core.Bool.{Bool, true, false, _&&_}
+use mathlib.Core.Bool.{Bool, true, false, not, _&&_, _||_, or-true}
 use mathlib.Core.Path.{_≡_, refl, sym, ap, ap₂, _∙_}
 use mathlib.Core.List.{List}
 use native.Mathlib.Omega.{arith}
 use lib.Dec.{eqb, ltb}
 use lib.ListN.{getD, set}
-use borrow.Author.Tests.{ltb-true}
+use native.Mathlib.Decide.{ℕ-discrete}
+use borrow.Author.Tests.{ltb-true, ltb-false, lt-ltb, le-ltb, eq-eqb, ne-eqb}
 use Rattle.model.specs.Types.{Cell, MessageKind, Free, Tokens, OwnershipAck, DeletionAck, State}
 use Rattle.model.specs.Tools.{pick, firstTo, fillTo}
-use Rattle.model.specs.States.{slotAt, isFree}
-use Rattle.model.specs.Refusals.{lowest, copyless, lowestFree}
+use Rattle.model.specs.States.{slotAt, isFree, bears}
+use Rattle.model.specs.WellFormed.{wellFormed}
+use Rattle.model.specs.Refusals.{freeAt, lowest, copyless, lowestFree, unborne}
 use Rattle.model.specs.Effects.{wordFor, afterRecreation}
-use Rattle.model.specs.Pools.{markOf, Marked, firstUnused}
+use Rattle.model.specs.Tags.{tagOf, Tagged, firstUntagged, absent, slotRefusal}
 use Rattle.model.proofs.Laws.Bools.{split}
+use Rattle.model.proofs.Keeps.Well.{well-address}
+use Rattle.model.proofs.Facts.Loops.{all-same}
 
 pub first-same : (k : ℕ) {p q : ℕ → Bool} → ((i : ℕ) → i < k → p i ≡ q i) → firstTo k p ≡ firstTo k q
 unfolding firstTo
@@ -25,16 +29,66 @@ unfolding fillTo
 fill-same zero at l h = refl
 fill-same (suc k) at l h = ap₂ (λ cs x. set cs (at + k) x) (fill-same k at l (λ i b. h i (omega arith))) (h k (omega arith))
 
--- the lowest free slot, by the marks
-marked-free : (k : MessageKind) → eqb (markOf k) 0 ≡ isFree k
-marked-free Free = refl
-marked-free Tokens = refl
-marked-free OwnershipAck = refl
-marked-free DeletionAck = refl
+-- a tag tells of a free slot
+tag-free : (k : MessageKind) (line q : ℕ) → eqb (tagOf k line q) 0 ≡ isFree k
+tag-free Free line q = refl
+tag-free Tokens line q = ne-eqb (line * 256 + q + 1) 0 (λ z. omega arith)
+tag-free OwnershipAck line q = ne-eqb (line * 256 + q + 1) 0 (λ z. omega arith)
+tag-free DeletionAck line q = ne-eqb (line * 256 + q + 1) 0 (λ z. omega arith)
 
-pub free-found : {used : List ℕ} (s : State) → Marked used (s .pool) → firstUnused used ≡ lowestFree s
-unfolding firstUnused lowestFree slotAt
-free-found s h = first-same 64 (λ i l. ap (λ n. eqb n 0) (h .each i l) ∙ marked-free (slotAt s i .kind))
+-- and of the line and the serial
+same-tag : (a b line q : ℕ) → b < 256 → q < 256 → eqb (a * 256 + b + 1) (line * 256 + q + 1) ≡ eqb a line && eqb b q
+same-tag a b line q hb hq =
+    elim (ℕ-discrete a line) [
+      | yes h ↦
+          elim (ℕ-discrete b q) [
+            | yes g ↦ rw (eq-eqb a line h, eq-eqb b q g) (eq-eqb (a * 256 + b + 1) (line * 256 + q + 1) (omega arith))
+            | no d ↦ rw (eq-eqb a line h, ne-eqb b q d) (ne-eqb (a * 256 + b + 1) (line * 256 + q + 1) (λ z. d (omega arith)))
+          ]
+      | no d ↦ rw (ne-eqb a line d) (ne-eqb (a * 256 + b + 1) (line * 256 + q + 1) (λ z. d (omega arith)))
+    ]
+
+tag-bears : (k : MessageKind) (a b line q : ℕ) → (isFree k ≡ false → b < 256) → q < 256
+    → eqb (tagOf k a b) (tagOf Tokens line q) ≡ not (isFree k) && eqb a line && eqb b q
+tag-bears Free a b line q hb hq = ne-eqb 0 (line * 256 + q + 1) (λ z. omega arith)
+tag-bears Tokens a b line q hb hq = same-tag a b line q (hb refl) hq
+tag-bears OwnershipAck a b line q hb hq = same-tag a b line q (hb refl) hq
+tag-bears DeletionAck a b line q hb hq = same-tag a b line q (hb refl) hq
+
+module _ {tags : List ℕ} (t : State) (tagged : Tagged tags (t .pool)) where
+  free-at : (i : ℕ) → i < 64 → eqb (getD tags i 0) 0 ≡ freeAt t i
+  unfolding slotAt
+  free-at i l = ap (λ n. eqb n 0) (tagged .each i l) ∙ tag-free (slotAt t i .kind) (slotAt t i .line) (slotAt t i .serial .0)
+
+  -- the lowest free slot
+  pub free-found : firstUntagged tags ≡ lowestFree t
+  unfolding firstUntagged lowestFree
+  free-found = first-same 64 free-at
+
+  -- number 6
+  pub slot-refusal : (i : ℕ) → slotRefusal tags i ≡ pick (ltb 63 i || freeAt t i) 6 0
+  unfolding slotRefusal
+  slot-refusal i =
+      split (ltb i 64) (λ y. let l = ltb-true i 64 y in rw (y, free-at i l, le-ltb 63 i (omega arith)))
+      (λ n. rw (n, lt-ltb 63 i (omega (arith, ltb-false i 64 n))))
+
+  pub slot-busy : (i : ℕ) → slotRefusal tags i ≡ 0 → freeAt t i ≡ false
+  slot-busy i h =
+      split (freeAt t i) (λ y. absurd (let g : pick (ltb 63 i || freeAt t i) 6 0 ≡ 0 = sym (slot-refusal i) ∙ h in omega (arith, rw (y, or-true) at g))) (λ n. n)
+
+  -- number 17: no slot has the tag of the line with the serial
+  pub absent-is : wellFormed t ≡ true → (line q : ℕ) → q < 256 → absent tags (tagOf Tokens line q) ≡ unborne t line q
+  unfolding absent unborne bears slotAt
+  absent-is w line q small =
+      all-same 64
+      (λ i l.
+      ap not
+      (ap (λ n. eqb n (tagOf Tokens line q)) (tagged .each i l)
+      ∙ tag-bears (slotAt t i .kind) (slotAt t i .line) (slotAt t i .serial .0) line q (λ f. let ad = well-address t w i l f in omega arith) small))
+
+pub slot-near : (tags : List ℕ) (i : ℕ) {n : ℕ} → n ≡ slotRefusal tags i → n ≡ 0 → i < 64
+unfolding slotRefusal
+slot-near tags i h g = split (ltb i 64) (λ y. ltb-true i 64 y) (λ f. absurd (let z : 0 ≡ 6 = sym g ∙ (rw f at h) in omega arith))
 
 -- two views of a line's nine cells that agree
 module _ {f g : ℕ → Cell} (same : (n : ℕ) → n < 9 → f n ≡ g n) where

@@ -8,7 +8,7 @@ use native.Mathlib.Omega.{arith}
 use lib.Dec.{eqb, leb, ltb}
 use lib.ListN.{length, getD, set, length-set}
 use borrow.Author.Tests.{ltb-false, leb-false, eqb-false}
-use Rattle.model.specs.Types.{Cell, Message, Sizes, State, Event, Answer}
+use Rattle.model.specs.Types.{Cell, Tokens, Message, Sizes, State, Event, Answer}
 use Rattle.model.specs.Tools.{pick}
 use Rattle.model.specs.Cells.{zeroCell}
 use Rattle.model.specs.States.{serialAt, withCell, withSlot}
@@ -18,7 +18,7 @@ use Rattle.model.specs.Effects.{answer, sentCell, sentMessage, sendOf, e
 use Rattle.model.specs.Rows.{sendRows, sendRefusal}
 use Rattle.model.specs.Needs.{Sendable}
 use Rattle.model.specs.Places.{Within, Placed}
-use Rattle.model.specs.Pools.{Marked, firstUnused}
+use Rattle.model.specs.Tags.{tagOf, Tagged, firstUntagged}
 use Rattle.model.proofs.Laws.Bools.{split, or-left, or-right}
 use Rattle.model.proofs.Laws.Views.{Sized}
 use Rattle.model.proofs.Keeps.Accepted.{numbered, Clear, clear}
@@ -26,7 +26,7 @@ use Rattle.model.proofs.Keeps.Numbers.{step-effect}
 use Rattle.model.proofs.Keeps.Well.{well-sizes}
 use Rattle.model.proofs.Facts.Numbers.{send-number}
 use Rattle.model.proofs.Facts.Searches.{free-found}
-use Rattle.model.proofs.Facts.Turns.{Turned, turn-of, mark-set, refused-turn, loaded, named}
+use Rattle.model.proofs.Facts.Turns.{Turned, turn-of, tag-set, refused-turn, loaded, named}
 
 -- what a send that is not refused has
 pub record Sent (z : Sizes) (e : Event) (x : Cell) (i : ℕ) : Type 0 where
@@ -64,40 +64,40 @@ sendable t w e x i hz h g =
     let zs = well-sizes t w in
     record { line = omega arith; node = omega arith; other = omega arith; amount = s .amount }
 
-module _ (t : State) (sized : Sized t) (w : wellFormed t ≡ true) (e : Event) (used : List ℕ) (marked : Marked used (t .pool)) (marks : length used ≡ 64)
+module _ (t : State) (sized : Sized t) (w : wellFormed t ≡ true) (e : Event) (tags : List ℕ) (tagged : Tagged tags (t .pool)) (slots : length tags ≡ 64)
     (known : e .kind < 10) (unslotted : slotted (e .kind) ≡ false) {k : ℕ} {b n : ℕ} (hb : Within 256 (e .line) b) (hn : Within 256 (e .node) n)
-    (pk : Placed b n k) {z : Sizes} (hz : z ≡ t .sizes) (sends : e .kind ≡ 2) {i : ℕ} (hi : i ≡ firstUnused used) {number : ℕ}
+    (pk : Placed b n k) {z : Sizes} (hz : z ≡ t .sizes) (sends : e .kind ≡ 2) {i : ℕ} (hi : i ≡ firstUntagged tags) {number : ℕ}
     (hm : number ≡ sendRefusal z e (getD (t .cells) k zeroCell) i) where
   slot-is : i ≡ lowestFree t
-  slot-is = hi ∙ free-found t marked
+  slot-is = hi ∙ free-found t tagged
 
   number-is : refusal t e ≡ number
   number-is =
       send-number t e w sends
-      ∙ sym (send-same (t .sizes) e (getD (t .cells) k zeroCell) (cellOf t e) (lowestFree t) (named t sized w e used marked marks known unslotted hb hn pk))
+      ∙ sym (send-same (t .sizes) e (getD (t .cells) k zeroCell) (cellOf t e) (lowestFree t) (named t sized w e tags tagged slots known unslotted hb hn pk))
       ∙ sym (rw (hz, slot-is) at hm)
 
-  pub send-refused : (number ≡ 0 → ⊥) → {a : Answer} → a ≡ answer number 0 64 → Turned t e t a used
-  send-refused d g = refused-turn t sized w e used marked marks number-is d g
+  pub send-refused : (number ≡ 0 → ⊥) → {a : Answer} → a ≡ answer number 0 64 → Turned t e t a tags
+  send-refused d g = refused-turn t sized w e tags tagged slots number-is d g
 
   module _ (accepted : number ≡ 0) where
     is-sent : Sent (t .sizes) e (getD (t .cells) k zeroCell) i
     is-sent = sent (t .sizes) e (getD (t .cells) k zeroCell) i (rw hz at (sym hm ∙ accepted))
 
-    pub send-turn : i ≤ 64 → {r : ℕ} → Within 16 b r → {y : Cell} {m : Message} {a : Answer} → y ≡ sentCell e (getD (t .cells) k zeroCell)
-        → m ≡ sentMessage e (getD (t .serials) r (record { 0 = 0 }) .0) (getD (t .cells) k zeroCell) → a ≡ answer 0 0 i
-        → Turned t e (record { sizes = t .sizes; serials = t .serials; cells = set (t .cells) k y; pool = set (t .pool) i m }) a (set used i 1)
+    pub send-turn : i ≤ 64 → {r : ℕ} → Within 16 b r → {y : Cell} {m : Message} {tag : ℕ} {a : Answer} → y ≡ sentCell e (getD (t .cells) k zeroCell)
+        → m ≡ sentMessage e (getD (t .serials) r (record { 0 = 0 }) .0) (getD (t .cells) k zeroCell) → tag ≡ tagOf Tokens b (getD (t .serials) r (record { 0 = 0 }) .0) → a ≡ answer 0 0 i
+        → Turned t e (record { sizes = t .sizes; serials = t .serials; cells = set (t .cells) k y; pool = set (t .pool) i m }) a (set tags i tag)
     unfolding sendOf effect withCell withSlot serialAt
-    send-turn room {r} pr {y} {m} hy hs ha =
+    send-turn room {r} pr {y} {m} hy hs hg ha =
         let s = is-sent in
         let zs = well-sizes t w in
-        let x = named t sized w e used marked marks known unslotted hb hn pk (s .line) (s .node) in
-        let at = loaded t sized w e used marked marks known unslotted hb hn pk (s .line) (s .node) in
+        let x = named t sized w e tags tagged slots known unslotted hb hn pk (s .line) (s .node) in
+        let at = loaded t sized w e tags tagged slots known unslotted hb hn pk (s .line) (s .node) in
         let line : b ≡ e .line = hb .same (omega arith) in
         let row : r ≡ e .line = pr .same (omega arith) ∙ line in
         turn-of t e (step-effect t e (number-is ∙ accepted) ∙ ap (effect t e) sends) (rw (hy, hs, x, at, row, slot-is)) (rw (ha, slot-is))
-        (mark-set i m marked marks (sized .pool) (omega (arith, s .room)) (rw hs))
-        (simp length-set marks)
+        (tag-set i m tagged slots (sized .pool) (omega (arith, s .room)) (rw (hs, ← line) hg))
+        (simp length-set slots)
 
 -- a send that is not refused has found a slot
 pub slot-found : (z : Sizes) (e : Event) (x : Cell) (i : ℕ) {n : ℕ} → n ≡ sendRefusal z e x i → n ≡ 0 → i ≤ 64 → i < 64

@@ -7,64 +7,64 @@ use native.Mathlib.Omega.{arith}
 use native.Mathlib.Decide.{ℕ-discrete}
 use lib.Dec.{eqb, ltb}
 use lib.ListN.{length, getD, set, length-set}
-use lib.Seq.{set-getD, getD-set-same, getD-set-other}
-use borrow.Author.Tests.{eqb-true, eqb-false, ne-eqb, eq-eqb, lt-ltb, le-ltb}
+use lib.Seq.{getD-set-same, getD-set-other}
+use borrow.Author.Tests.{ne-eqb, ltb-true, ltb-false}
 use Rattle.model.specs.Types.{Cell, MessageKind, Free, Tokens, OwnershipAck, DeletionAck, Message, Sizes, State, Event, Answer, Stepped}
-use Rattle.model.specs.declared.changes.CellChange.{CellChange}
 use Rattle.model.specs.declared.changes.SlotChange.{SlotChange}
 use Rattle.model.specs.Tools.{pick}
 use Rattle.model.specs.Cells.{zeroCell}
 use Rattle.model.specs.States.{freeMessage, cellAt, slotAt, serialAt, withCells, withCell, withSlot, isFree}
 use Rattle.model.specs.WellFormed.{wellFormed}
-use Rattle.model.specs.Refusals.{refusal, slotted, dropping, cellOf, freeAt, lowestFree}
+use Rattle.model.specs.Refusals.{refusal, reading, slotted, dropping, cellOf, freeAt}
 use Rattle.model.specs.Effects.{answer, answered, ack, target, landed, emptied, arrive, deliverOf, readOf, writeOf, wantOf, effect, stepOf}
-use Rattle.model.specs.Rows.{cellRefusal}
-use Rattle.model.specs.Changes.{touched, touchBy, touchOf, discarded, arriveBy, arriveOf, lost, replyOf}
+use Rattle.model.specs.Rows.{cellRows, cellRefusal}
+use Rattle.model.specs.Changes.{wantedBy, touchedCell, discarded, arriveBy, arriveOf, lost, replyOf}
 use Rattle.model.specs.Places.{Within, Placed}
-use Rattle.model.specs.Pools.{markOf, Marked}
+use Rattle.model.specs.Tags.{tagOf, slotTag, Tagged, slotRefusal}
 use Rattle.model.proofs.Laws.Bools.{clash, split, by-pick, or-left, or-right}
 use Rattle.model.proofs.Laws.Views.{Sized, same-cell, same-slot}
-use Rattle.model.proofs.Keeps.Accepted.{by-kind}
+use Rattle.model.proofs.Keeps.Accepted.{by-kind, numbered}
 use Rattle.model.proofs.Keeps.Numbers.{step-effect, step-refused}
-use Rattle.model.proofs.Keeps.Well.{well-sizes, well-address, well-tokens, well-count, well-free}
-use Rattle.model.proofs.Facts.Numbers.{above-number, slot-number, cell-number, cell-same, cell-within}
+use Rattle.model.proofs.Keeps.Well.{well-sizes, well-address, well-tokens, well-count}
+use Rattle.model.proofs.Facts.Numbers.{above-number, slot-number, cell-number, timeout-number, given-stops, cell-same, cell-within}
+use Rattle.model.proofs.Facts.Searches.{slot-refusal, slot-near, slot-busy}
 
--- the marks of the slots, after one is replaced
-pub mark-set : {used : List ℕ} {pool : List Message} (i : ℕ) {mk : ℕ} (m : Message) → Marked used pool → length used ≡ 64 → length pool ≡ 64 → i < 64
-    → mk ≡ markOf (m .kind) → Marked (set used i mk) (set pool i m)
-mark-set {used} {pool} i {mk} m h lu lp l e =
+-- the tags of the slots, after one is replaced
+pub tag-set : {tags : List ℕ} {pool : List Message} (i : ℕ) {tag : ℕ} (m : Message) → Tagged tags pool → length tags ≡ 64 → length pool ≡ 64 → i < 64
+    → tag ≡ slotTag m → Tagged (set tags i tag) (set pool i m)
+tag-set {tags} {pool} i {tag} m h lt lp l e =
     record {
       each = λ j b.
           elim (ℕ-discrete j i) [
-            | yes q ↦ rw (q, getD-set-same used i mk 0 (omega arith), getD-set-same pool i m freeMessage (omega arith)) e
-            | no d ↦ rw (getD-set-other used i j mk 0 d, getD-set-other pool i j m freeMessage d) (h .each j b)
+            | yes q ↦ rw (q, getD-set-same tags i tag 0 (omega arith), getD-set-same pool i m freeMessage (omega arith)) e
+            | no d ↦ rw (getD-set-other tags i j tag 0 d, getD-set-other pool i j m freeMessage d) (h .each j b)
           ];
     }
 
-reply-mark : (k : MessageKind) (q : ℕ) (m : Message) → markOf k ≡ markOf (replyOf k q m .kind)
+reply-tag : (k : MessageKind) (q : ℕ) (m : Message) → tagOf k (m .line) q ≡ slotTag (replyOf k q m)
 unfolding replyOf
-reply-mark Free q m = refl
-reply-mark Tokens q m = refl
-reply-mark OwnershipAck q m = refl
-reply-mark DeletionAck q m = refl
+reply-tag Free q m = refl
+reply-tag Tokens q m = refl
+reply-tag OwnershipAck q m = refl
+reply-tag DeletionAck q m = refl
 
 -- what a turn leaves is what the step of the event leaves
-pub record Turned (t : State) (e : Event) (u : State) (a : Answer) (used : List ℕ) : Type 0 where
+pub record Turned (t : State) (e : Event) (u : State) (a : Answer) (tags : List ℕ) : Type 0 where
   pub state : u ≡ stepOf t e .state
   pub answer : a ≡ stepOf t e .answer
-  pub marked : Marked used (u .pool)
-  pub marks : length used ≡ 64
+  pub tagged : Tagged tags (u .pool)
+  pub slots : length tags ≡ 64
 
-pub same-turn : {t : State} {e : Event} {u v : State} {a b : Answer} {used marks : List ℕ} → u ≡ v → used ≡ marks → a ≡ b → Turned t e v b marks → Turned t e u a used
+pub same-turn : {t : State} {e : Event} {u v : State} {a b : Answer} {tags slots : List ℕ} → u ≡ v → tags ≡ slots → a ≡ b → Turned t e v b slots → Turned t e u a tags
 same-turn p q r d = rw (p, q, r) d
 
 -- from the whole step, and from its parts
-pub turn-of : (t : State) (e : Event) {r : Stepped} {u : State} {a : Answer} {used : List ℕ} → stepOf t e ≡ r → u ≡ r .state → a ≡ r .answer → Marked used (u .pool) → length used ≡ 64 → Turned t e u a used
+pub turn-of : (t : State) (e : Event) {r : Stepped} {u : State} {a : Answer} {tags : List ℕ} → stepOf t e ≡ r → u ≡ r .state → a ≡ r .answer → Tagged tags (u .pool) → length tags ≡ 64 → Turned t e u a tags
 turn-of t e h p q m l =
-    record { state = p ∙ ap (λ (r : Stepped). r .state) (sym h); answer = q ∙ ap (λ (r : Stepped). r .answer) (sym h); marked = m; marks = l }
+    record { state = p ∙ ap (λ (r : Stepped). r .state) (sym h); answer = q ∙ ap (λ (r : Stepped). r .answer) (sym h); tagged = m; slots = l }
 
-turned : (t : State) (e : Event) {r : Stepped} {used : List ℕ} → stepOf t e ≡ r → Marked used (r .state .pool) → length used ≡ 64 → Turned t e (r .state) (r .answer) used
-turned t e h m l = record { state = ap (λ (r : Stepped). r .state) (sym h); answer = ap (λ (r : Stepped). r .answer) (sym h); marked = m; marks = l }
+turned : (t : State) (e : Event) {r : Stepped} {tags : List ℕ} → stepOf t e ≡ r → Tagged tags (r .state .pool) → length tags ≡ 64 → Turned t e (r .state) (r .answer) tags
+turned t e h m l = record { state = ap (λ (r : Stepped). r .state) (sym h); answer = ap (λ (r : Stepped). r .answer) (sym h); tagged = m; slots = l }
 
 -- a test between two changes is one between what they leave
 pick-along : {X Y : Type 0} (f : X → Y) (b : Bool) {x y : X} {u v : Y} → u ≡ f x → v ≡ f y → pick b u v ≡ f (pick b x y)
@@ -84,40 +84,45 @@ unfolding replyOf
 discard-is s i q m = ap (λ s. emptied s i) (sym (same-cell s (m .line) (m .destination)))
 
 -- a message of the line's serial that is delivered, by its kind
-arrive-is : (s : State) (i q : ℕ) (m : Message) (k : MessageKind) → isFree k ≡ false
+arrive-is : (s : State) (i q : ℕ) (m : Message) (k : MessageKind)
     → arrive s i m q k ≡ left s i q m (arriveBy (s .sizes .total .0) i (target s m) m k)
 unfolding arrive arriveBy replyOf
-arrive-is s i q m Free h = clash refl h
-arrive-is s i q m Tokens h = split (m .owner) (λ t. rw t) (λ f. rw f)
-arrive-is s i q m OwnershipAck h = pick-along (left s i q m) (target s m .backup) refl (discard-is s i q m)
-arrive-is s i q m DeletionAck h = pick-along (left s i q m) (target s m .blocked) refl (discard-is s i q m)
+arrive-is s i q m Free = discard-is s i q m
+arrive-is s i q m Tokens = split (m .owner) (λ t. rw t) (λ f. rw f)
+arrive-is s i q m OwnershipAck = pick-along (left s i q m) (target s m .backup) refl (discard-is s i q m)
+arrive-is s i q m DeletionAck = pick-along (left s i q m) (target s m .blocked) refl (discard-is s i q m)
 
-module _ (t : State) (sized : Sized t) (w : wellFormed t ≡ true) (e : Event) (used : List ℕ) (marked : Marked used (t .pool)) (marks : length used ≡ 64) where
+module _ (t : State) (sized : Sized t) (w : wellFormed t ≡ true) (e : Event) (tags : List ℕ) (tagged : Tagged tags (t .pool)) (slots : length tags ≡ 64) where
   -- a refusal leaves all as it was
-  pub refused-turn : {n : ℕ} {a : Answer} → refusal t e ≡ n → (n ≡ 0 → ⊥) → a ≡ answer n 0 64 → Turned t e t a used
+  pub refused-turn : {n : ℕ} {a : Answer} → refusal t e ≡ n → (n ≡ 0 → ⊥) → a ≡ answer n 0 64 → Turned t e t a tags
   refused-turn {n} h d g =
       let r = step-refused t e (rw h (ne-eqb n 0 d)) in
-      rw (g, ← h) (turned t e r marked marks)
+      rw (g, ← h) (turned t e r tagged slots)
 
-  pub above-turn : {a : Answer} → 10 ≤ e .kind → a ≡ answer 2 0 64 → Turned t e t a used
+  pub above-turn : {a : Answer} → 10 ≤ e .kind → a ≡ answer 2 0 64 → Turned t e t a tags
   above-turn h g = refused-turn (above-number t e w (omega arith)) (λ z. omega arith) g
 
-  module _ (known : e .kind < 10) (slot : slotted (e .kind) ≡ true) where
-    pub beyond-turn : {a : Answer} → 64 ≤ e .amount → a ≡ answer 6 0 64 → Turned t e t a used
-    beyond-turn h g =
-        refused-turn (slot-number t e w (omega arith) slot ∙ ap (λ b. pick (b || freeAt t (e .amount)) 6 0) (lt-ltb 63 (e .amount) (omega arith)))
-        (λ z. omega arith)
-        g
+  module _ (known : e .kind < 10) (slot : slotted (e .kind) ≡ true) {number : ℕ} (hm : number ≡ slotRefusal tags (e .amount)) where
+    slot-number-is : refusal t e ≡ number
+    slot-number-is = slot-number t e w (omega arith) slot ∙ sym (hm ∙ slot-refusal t tagged (e .amount))
 
-    module _ (near : e .amount < 64) where
-      -- a slot that is not free: the step is what the change leaves
-      slot-step : freeAt t (e .amount) ≡ false
-          → stepOf t e
+    pub slot-refused : (number ≡ 0 → ⊥) → {a : Answer} → a ≡ answer number 0 64 → Turned t e t a tags
+    slot-refused d g = refused-turn slot-number-is d g
+
+    module _ (accepted : number ≡ 0) where
+      near : e .amount < 64
+      near = slot-near tags (e .amount) hm accepted
+
+      busy : freeAt t (e .amount) ≡ false
+      busy = slot-busy t tagged (e .amount) (sym hm ∙ accepted)
+
+      -- the step is what the change leaves
+      slot-step : stepOf t e
           ≡ left t (e .amount) (serialAt t (slotAt t (e .amount) .line)) (slotAt t (e .amount))
           (arriveOf (t .sizes .total .0) (serialAt t (slotAt t (e .amount) .line)) e (e .kind) (target t (slotAt t (e .amount))) (slotAt t (e .amount)))
       unfolding effect deliverOf arriveOf lost
-      slot-step f =
-          step-effect t e (slot-number t e w (omega arith) slot ∙ rw (le-ltb 63 (e .amount) (omega arith), f))
+      slot-step =
+          step-effect t e (slot-number-is ∙ accepted)
           ∙ by-kind
           (λ k. slotted k ≡ true
           → effect t e k
@@ -129,8 +134,8 @@ module _ (t : State) (sized : Sized t) (w : wellFormed t ≡ true) (e : Event) (
           (λ _.
           let m = slotAt t (e .amount) in
           let q = serialAt t (m .line) in
-          rw f (pick-across (left t (e .amount) q m) (eqb (m .serial .0) q) (arrive-is t (e .amount) q m (m .kind) f) (discard-is t (e .amount) q m)))
-          (λ _. rw f (discard-is t (e .amount) _ (slotAt t (e .amount))))
+          pick-across (left t (e .amount) q m) (eqb (m .serial .0) q) (arrive-is t (e .amount) q m (m .kind)) (discard-is t (e .amount) q m))
+          (λ _. discard-is t (e .amount) _ (slotAt t (e .amount)))
           (λ g. clash g refl)
           (λ g. clash g refl)
           (λ g. clash g refl)
@@ -140,54 +145,23 @@ module _ (t : State) (sized : Sized t) (w : wellFormed t ≡ true) (e : Event) (
           (omega arith)
           slot
 
-      -- a slot that is free: the change is a refusal that leaves the slot as it is
-      free-change : (n q k : ℕ) (x : Cell) → arriveOf n q e k x freeMessage ≡ record { cell = x; reply = Free; answer = answer 6 0 64 }
-      unfolding arriveOf lost arriveBy
-      free-change n q k x = refl
-
-      busy-turn : {k q : ℕ} → freeAt t (e .amount) ≡ false → k ≡ slotAt t (e .amount) .line * 9 + slotAt t (e .amount) .destination → q ≡ serialAt t (slotAt t (e .amount) .line)
-          → {c : SlotChange} {p : Message} {mk : ℕ} → c ≡ arriveOf (t .sizes .total .0) q e (e .kind) (getD (t .cells) k zeroCell) (slotAt t (e .amount))
-          → p ≡ replyOf (c .reply) q (slotAt t (e .amount)) → mk ≡ markOf (c .reply)
-          → Turned t e (record { sizes = t .sizes; serials = t .serials; cells = set (t .cells) k (c .cell); pool = set (t .pool) (e .amount) p }) (c .answer) (set used (e .amount) mk)
-      unfolding withSlot withCell cellAt
-      busy-turn {k} {q} f hk hq {c} {p} hc hp hm =
-          let h = rw (hk, hq) at hc in
-          turn-of t e (slot-step f) (rw (hk, hp, hq, h)) (ap (λ (c : SlotChange). c .answer) h)
-          (mark-set (e .amount) p marked marks (sized .pool) near
-          (hm ∙ reply-mark (c .reply) q (slotAt t (e .amount)) ∙ ap (λ (m : Message). markOf (m .kind)) (sym hp)))
-          (simp length-set marks)
-
-      free-turn : (k q n : ℕ) → freeAt t (e .amount) ≡ true → {c : SlotChange} {p : Message} {mk : ℕ}
-          → c ≡ arriveOf n q e (e .kind) (getD (t .cells) k zeroCell) (slotAt t (e .amount)) → p ≡ replyOf (c .reply) q (slotAt t (e .amount))
-          → mk ≡ markOf (c .reply)
-          → Turned t e (record { sizes = t .sizes; serials = t .serials; cells = set (t .cells) k (c .cell); pool = set (t .pool) (e .amount) p }) (c .answer) (set used (e .amount) mk)
-      unfolding slotAt replyOf
-      free-turn k q n f {c} {p} hc hp hm =
-          let y = well-free t w (e .amount) near f in
-          let h = hc ∙ ap (arriveOf n q e (e .kind) (getD (t .cells) k zeroCell)) y ∙ free-change n q (e .kind) (getD (t .cells) k zeroCell) in
-          let g = hp ∙ ap (λ (c : SlotChange). replyOf (c .reply) q (slotAt t (e .amount))) h ∙ sym y in
-          let busy : ltb 63 (e .amount) || freeAt t (e .amount) ≡ true = rw (le-ltb 63 (e .amount) (omega arith)) f in
-          let number = slot-number t e w (omega arith) slot ∙ ap (λ b. pick b 6 0) busy in
-          turn-of t e (step-refused t e (rw number) ∙ ap (λ n. answered t n 0 64) number)
-          (ap₂ (λ cs ms. record { sizes = t .sizes; serials = t .serials; cells = cs; pool = ms }) (ap (λ (c : SlotChange). set (t .cells) k (c .cell)) h ∙ set-getD (t .cells) k zeroCell)
-          (ap (set (t .pool) (e .amount)) g ∙ set-getD (t .pool) (e .amount) freeMessage))
-          (ap (λ (c : SlotChange). c .answer) h)
-          (mark-set (e .amount) p marked marks (sized .pool) near
-          (hm ∙ reply-mark (c .reply) q (slotAt t (e .amount)) ∙ ap (λ (m : Message). markOf (m .kind)) (sym hp)))
-          (simp length-set marks)
-
       pub slot-turn : {k r : ℕ} → Placed (getD (t .pool) (e .amount) freeMessage .line) (getD (t .pool) (e .amount) freeMessage .destination) k
-          → Within 16 (getD (t .pool) (e .amount) freeMessage .line) r → {z : Sizes} → z ≡ t .sizes → {c : SlotChange} {p : Message} {mk : ℕ}
+          → Within 16 (getD (t .pool) (e .amount) freeMessage .line) r → {z : Sizes} → z ≡ t .sizes → {c : SlotChange} {p : Message} {tag : ℕ}
           → c ≡ arriveOf (z .total .0) (getD (t .serials) r (record { 0 = 0 }) .0) e (e .kind) (getD (t .cells) k zeroCell) (getD (t .pool) (e .amount) freeMessage)
-          → p ≡ replyOf (c .reply) (getD (t .serials) r (record { 0 = 0 }) .0) (getD (t .pool) (e .amount) freeMessage) → mk ≡ markOf (c .reply)
-          → Turned t e (record { sizes = t .sizes; serials = t .serials; cells = set (t .cells) k (c .cell); pool = set (t .pool) (e .amount) p }) (c .answer) (set used (e .amount) mk)
-      unfolding slotAt serialAt
-      slot-turn {k} {r} pk pr {z} hz {c} {p} {mk} hc hp hm =
-          split (freeAt t (e .amount)) (λ f. free-turn k (getD (t .serials) r (record { 0 = 0 }) .0) (z .total .0) f hc hp hm)
-          (λ f.
-          let ad = well-address t w (e .amount) near f in
+          → p ≡ replyOf (c .reply) (getD (t .serials) r (record { 0 = 0 }) .0) (getD (t .pool) (e .amount) freeMessage)
+          → tag ≡ tagOf (c .reply) (getD (t .pool) (e .amount) freeMessage .line) (getD (t .serials) r (record { 0 = 0 }) .0)
+          → Turned t e (record { sizes = t .sizes; serials = t .serials; cells = set (t .cells) k (c .cell); pool = set (t .pool) (e .amount) p }) (c .answer) (set tags (e .amount) tag)
+      unfolding slotAt serialAt withSlot withCell cellAt
+      slot-turn {k} {r} pk pr {z} hz {c} {p} {tag} hc hp hg =
+          let ad = well-address t w (e .amount) near busy in
           let zs = well-sizes t w in
-          busy-turn f (pk .same (omega arith) (omega arith)) (ap (λ r. getD (t .serials) r (record { 0 = 0 }) .0) (pr .same (omega arith))) (rw hz at hc) hp hm)
+          let hk : k ≡ slotAt t (e .amount) .line * 9 + slotAt t (e .amount) .destination = pk .same (omega arith) (omega arith) in
+          let hr : r ≡ slotAt t (e .amount) .line = pr .same (omega arith) in
+          let h = rw (hz, hk, hr) at hc in
+          turn-of t e slot-step (rw (hk, hp, hr, h)) (ap (λ (c : SlotChange). c .answer) h)
+          (tag-set (e .amount) p tagged slots (sized .pool) near
+          (hg ∙ reply-tag (c .reply) (getD (t .serials) r (record { 0 = 0 }) .0) (slotAt t (e .amount)) ∙ ap slotTag (sym hp)))
+          (simp length-set slots)
 
   module _ (known : e .kind < 10) (unslotted : slotted (e .kind) ≡ false) where
     module _ {k : ℕ} {b n : ℕ} (hb : Within 256 (e .line) b) (hn : Within 256 (e .node) n) (pk : Placed b n k) where
@@ -205,12 +179,12 @@ module _ (t : State) (sized : Sized t) (w : wellFormed t ≡ true) (e : Event) (
 
       module _ {z : Sizes} (hz : z ≡ t .sizes) where
         touch-effect : (e .kind ≡ 2 → ⊥) → e .kind < 7
-            → effect t e (e .kind) ≡ record { state = withCell t (e .line) (e .node) (touchBy e (e .kind) (cellOf t e) .cell); answer = touchBy e (e .kind) (cellOf t e) .answer }
-        unfolding effect readOf writeOf wantOf touchBy
+            → effect t e (e .kind) ≡ answered (withCell t (e .line) (e .node) (touchedCell e (e .kind) (cellOf t e))) 0 (pick (reading (e .kind)) (cellOf t e .word) 0) 64
+        unfolding effect readOf writeOf wantOf touchedCell wantedBy
         touch-effect d l =
             by-kind
             (λ k. slotted k ≡ false → (k ≡ 2 → ⊥) → k < 7
-            → effect t e k ≡ record { state = withCell t (e .line) (e .node) (touchBy e k (cellOf t e) .cell); answer = touchBy e k (cellOf t e) .answer })
+            → effect t e k ≡ answered (withCell t (e .line) (e .node) (touchedCell e k (cellOf t e))) 0 (pick (reading k) (cellOf t e .word) 0) 64)
             (λ _ _ _. ap (λ s. answered s 0 (cellOf t e .word) 64) (sym (same-cell t (e .line) (e .node))))
             (λ _ _ _. refl)
             (λ _ b _. absurd (b refl))
@@ -227,24 +201,32 @@ module _ (t : State) (sized : Sized t) (w : wellFormed t ≡ true) (e : Event) (
             d
             l
 
-        pub touch-turn : (e .kind ≡ 2 → ⊥) → e .kind < 7 → {c : CellChange} → c ≡ touchOf z e (e .kind) (getD (t .cells) k zeroCell)
-            → Turned t e (record { sizes = t .sizes; serials = t .serials; cells = set (t .cells) k (c .cell); pool = t .pool }) (c .answer) used
-        unfolding touchOf withCell
-        touch-turn d l {c} hc =
-            let number = cell-number t e w (omega arith) unslotted d l ∙ sym (cell-same (t .sizes) e (e .kind) (getD (t .cells) k zeroCell) (cellOf t e) named) in
-            let h = rw hz at hc in
-            split (eqb (cellRefusal (t .sizes) e (e .kind) (getD (t .cells) k zeroCell)) 0)
-            (λ y.
-            let v = eqb-true (cellRefusal (t .sizes) e (e .kind) (getD (t .cells) k zeroCell)) 0 y in
-            let i = cell-within (t .sizes) e (e .kind) (getD (t .cells) k zeroCell) v in
-            let g = rw (y, named (i .0) (i .1)) at h in
-            turn-of t e (step-effect t e (number ∙ v) ∙ touch-effect d l) (rw (loaded (i .0) (i .1), g)) (ap (λ (c : CellChange). c .answer) g) marked marks)
-            (λ y.
-            let g = rw y at h in
-            turn-of t e (step-refused t e (rw number y)) (ap (λ (c : CellChange). withCells t (set (t .cells) k (c .cell))) g ∙ ap (withCells t) (set-getD (t .cells) k zeroCell))
-            (ap (λ (c : CellChange). c .answer) g ∙ ap (λ n. answer n 0 64) (sym number))
-            marked
-            marks)
+        module _ (d : e .kind ≡ 2 → ⊥) {number : ℕ} (hm : number ≡ cellRefusal z e (e .kind) (getD (t .cells) k zeroCell)) where
+          -- the number is that of the cell which the event names
+          pub cell-refusal-is : number ≡ cellRefusal (t .sizes) e (e .kind) (cellOf t e)
+          cell-refusal-is = (rw hz at hm) ∙ cell-same (t .sizes) e (e .kind) (getD (t .cells) k zeroCell) (cellOf t e) named
+
+          pub cell-refused : (number ≡ 0 → ⊥) → {a : Answer} → a ≡ answer number 0 64 → Turned t e t a tags
+          unfolding cellRefusal numbered
+          cell-refused n g =
+              refused-turn
+              (split (ltb (e .kind) 7) (λ y. cell-number t e w (omega arith) unslotted d (ltb-true (e .kind) 7 y) ∙ sym cell-refusal-is)
+              (λ f. timeout-number t e w (omega arith) (ltb-false (e .kind) 7 f) ∙ given-stops (cellRows (t .sizes) e (e .kind) (cellOf t e) []) _ refl (sym cell-refusal-is) n))
+              n
+              g
+
+          module _ (accepted : number ≡ 0) where
+            pub within : (e .line < t .sizes .lines) × (e .node ≤ t .sizes .caches)
+            within = cell-within (t .sizes) e (e .kind) (cellOf t e) (sym cell-refusal-is ∙ accepted)
+
+            pub touch-turn : e .kind < 7 → {y : Cell} {v : ℕ} {a : Answer} → y ≡ touchedCell e (e .kind) (getD (t .cells) k zeroCell)
+                → v ≡ pick (reading (e .kind)) (getD (t .cells) k zeroCell .word) 0 → a ≡ answer 0 v 64
+                → Turned t e (record { sizes = t .sizes; serials = t .serials; cells = set (t .cells) k y; pool = t .pool }) a tags
+            unfolding withCell
+            touch-turn l {y} {v} hy hv ha =
+                let i = within in
+                let x = named (i .0) (i .1) in
+                turn-of t e (step-effect t e (cell-number t e w (omega arith) unslotted d l ∙ sym cell-refusal-is ∙ accepted) ∙ touch-effect d l) (rw (loaded (i .0) (i .1), hy, x)) (rw (ha, hv, x)) tagged slots
 
 -- what a delivery needs: the sum of the two counts fits
 pub arrivable : (t : State) → wellFormed t ≡ true → (i : ℕ) → i < 64 → {k : ℕ} → Placed (getD (t .pool) i freeMessage .line) (getD (t .pool) i freeMessage .destination) k

@@ -4,9 +4,6 @@ use borrow.Author.Needs.{needs}
 use Rattle.model.proofs.renewals.renewal_refusal.Statement.{statement}
 use Rattle.model.proofs.renewals.renewal_refusal.Tie as tie
 
-unborne-requires : tie.Need-unborne-requires
-unborne-requires c κs = search needs
-
 copyless-requires : tie.Need-copyless-requires
 copyless-requires c κs = search needs
 
@@ -23,4 +20,4 @@ returns c = cc
 pub renewal-refusal-spec : {M : Type 1} → statement M
 renewal-refusal-spec =
     tie.close
-    (tie.spec unborne-requires copyless-requires either-requires either-requires-2 returns)
+    (tie.spec copyless-requires either-requires either-requires-2 returns)

@@ -1,272 +1,377 @@
-use lib.ListN.{drop}
-use Rattle.model.proofs.Facts.Sends.{slot-found}
-use Rattle.model.proofs.Facts.Timeouts.{cause-refused, renewal-refused, renewal-turn}
-use Rattle.model.proofs.Facts.Sends.{sendable, sent, send-turn, send-refused}
-use Rattle.model.proofs.Facts.Turns.{Turned, same-turn, above-turn, beyond-turn, slot-turn, touch-turn, arrivable}
+use lib.ListN.{length, getD, length-set, drop}
+use lib.Dec.{eqb}
+use Rattle.model.specs.Tools.{fillTo}
+use Rattle.model.specs.Cells.{zeroCell}
+use Rattle.model.specs.States.{withCells}
+use Rattle.model.specs.Nines.{nth, renewedOf}
+use Rattle.model.proofs.Facts.Loops.{fill-none}
+use Rattle.model.proofs.Facts.Tables.{table-more}
+use Rattle.model.proofs.Facts.Searches.{slot-near}
+use Rattle.model.proofs.Facts.Timeouts.{renewal-refused, renewal-turn, fill-cells}
+use Rattle.model.proofs.Facts.Sends.{sendable, slot-found, send-turn, send-refused}
+use Rattle.model.proofs.Facts.Turns.{Turned, same-turn, above-turn, slot-refused, slot-turn, cell-refused, touch-turn, arrivable}
 use Rattle.model.proofs.Facts.Renewals.{mapped-long}
 use Rattle.model.proofs.Facts.Running.{Running, begins, goes-on, ends, event-part}
 use mathlib.Core.Logic.{⊎-elim}
 use mathlib.Core.Path.{_≡_, refl, _∙_, ap}
 use native.Mathlib.Omega.{arith}
-use Prim.Native.Nat.{_-_, _≤_, _<_, _*_, _+_}
+use Prim.Native.Nat.{ℕ, _-_, _≤_, _<_, _*_, _+_}
 use borrow.Author.Needs.{needs}
 use Rattle.model.proofs.runs.run.Statement.{statement}
 use Rattle.model.proofs.runs.run.Tie as tie
 
+abbrev Inv-loop2 : tie.InvT-loop2
+Inv-loop2 n events answers t z tags i at kind line node k l q number first nine₀ from₀ nine from = (from ≤ 9) × (length nine ≡ 9) × ((j : ℕ) → j < from → nth nine j ≡ getD (t .cells) (first + j) zeroCell)
+
+abbrev μ-loop2 : tie.MeasureT-loop2
+μ-loop2 n events answers t z tags i at kind line node k l q number first nine₀ from₀ nine from = 9 - from
+
+abbrev Inv-loop3 : tie.InvT-loop3
+Inv-loop3 n events answers t₀ z tags i at kind said line node k l number first nine from next free late total word chosen to₀ t to = (to ≤ 9) × (t ≡ withCells t₀ (fillTo to first (λ j. renewedOf (eqb j chosen) (total .0) word (nth nine j)) (t₀ .cells)))
+
+abbrev μ-loop3 : tie.MeasureT-loop3
+μ-loop3 n events answers t₀ z tags i at kind said line node k l number first nine from next free late total word chosen to₀ t to = 9 - to
+
 abbrev Inv-loop : tie.InvT-loop
-Inv-loop n events answers₀ t₀ z used₀ i₀ answers t used i = Running n events answers₀ t₀ z answers t used i
+Inv-loop n events answers₀ t₀ z tags₀ i₀ answers t tags i = Running n events answers₀ t₀ z answers t tags i
 
 abbrev μ-loop : tie.MeasureT-loop
-μ-loop n events answers₀ t₀ z used₀ i₀ answers t used i = n - i
+μ-loop n events answers₀ t₀ z tags₀ i₀ answers t tags i = n - i
 
-marks-of-requires : tie.Need-marks-of-requires Inv-loop μ-loop
-marks-of-requires c κs = search needs
+tags-of-requires : tie.Need-tags-of-requires Inv-loop2 μ-loop2 Inv-loop3 μ-loop3 Inv-loop μ-loop
+tags-of-requires c κs = search needs
 
-loop-holds : tie.Need-loop-holds Inv-loop μ-loop
-loop-holds c = let a = c .before .before .before .before .before in begins _ _ _ _ (record { cells = search (needs, mapped-long); pool = search (needs, mapped-long); serials = search (needs, mapped-long) }) (a .pre .0) (c .marks-of .ensures) (search (needs, mapped-long))
+loop-holds : tie.Need-loop-holds Inv-loop2 μ-loop2 Inv-loop3 μ-loop3 Inv-loop μ-loop
+loop-holds c = let a = c .before .before .before .before .before in begins _ _ _ _ (record { cells = search (needs, mapped-long); pool = search (needs, mapped-long); serials = search (needs, mapped-long) }) (a .pre .0) (c .tags-of .ensures) (search (needs, mapped-long))
 
-mul-at : tie.Need-mul-at Inv-loop μ-loop
+mul-at : tie.Need-mul-at Inv-loop2 μ-loop2 Inv-loop3 μ-loop3 Inv-loop μ-loop
 mul-at c = search needs
 
-add-decode : tie.Need-add-decode Inv-loop μ-loop
+add-decode : tie.Need-add-decode Inv-loop2 μ-loop2 Inv-loop3 μ-loop3 Inv-loop μ-loop
 add-decode c = search needs
 
-mul-decode : tie.Need-mul-decode Inv-loop μ-loop
+mul-decode : tie.Need-mul-decode Inv-loop2 μ-loop2 Inv-loop3 μ-loop3 Inv-loop μ-loop
 mul-decode c = search needs
 
-sub-decode : tie.Need-sub-decode Inv-loop μ-loop
+sub-decode : tie.Need-sub-decode Inv-loop2 μ-loop2 Inv-loop3 μ-loop3 Inv-loop μ-loop
 sub-decode c = search needs
 
-part-decode-start : tie.Need-part-decode-start Inv-loop μ-loop
+part-decode-start : tie.Need-part-decode-start Inv-loop2 μ-loop2 Inv-loop3 μ-loop3 Inv-loop μ-loop
 part-decode-start c = search needs
 
-part-decode-end : tie.Need-part-decode-end Inv-loop μ-loop
+part-decode-end : tie.Need-part-decode-end Inv-loop2 μ-loop2 Inv-loop3 μ-loop3 Inv-loop μ-loop
 part-decode-end c = search needs
 
-decode-requires : tie.Need-decode-requires Inv-loop μ-loop
+decode-requires : tie.Need-decode-requires Inv-loop2 μ-loop2 Inv-loop3 μ-loop3 Inv-loop μ-loop
 decode-requires c κs = search needs
 
-answer-requires : tie.Need-answer-requires Inv-loop μ-loop
+answer-requires : tie.Need-answer-requires Inv-loop2 μ-loop2 Inv-loop3 μ-loop3 Inv-loop μ-loop
 answer-requires c κs = search needs
 
-cast-j : tie.Need-cast-j Inv-loop μ-loop
-cast-j c = search needs
+slot-refusal-requires : tie.Need-slot-refusal-requires Inv-loop2 μ-loop2 Inv-loop3 μ-loop3 Inv-loop μ-loop
+slot-refusal-requires c κs = search needs
 
-mul-m : tie.Need-mul-m Inv-loop μ-loop
-mul-m c = search needs
-
-element-copy-out-m : tie.Need-element-copy-out-m Inv-loop μ-loop
-element-copy-out-m c = search needs
-
-place-requires : tie.Need-place-requires Inv-loop μ-loop
-place-requires c κs = search needs
-
-row-requires : tie.Need-row-requires Inv-loop μ-loop
-row-requires c κs = search needs
-
-element-copy-out-q : tie.Need-element-copy-out-q Inv-loop μ-loop
-element-copy-out-q c = search needs
-
-mul-x : tie.Need-mul-x Inv-loop μ-loop
-mul-x c = search needs
-
-element-copy-out-x : tie.Need-element-copy-out-x Inv-loop μ-loop
-element-copy-out-x c = search needs
-
-arrived-requires : tie.Need-arrived-requires Inv-loop μ-loop
-arrived-requires c κs = arrivable _ (c .before .before .before .before .before .before .before .before .before .before .before .before .before .before .before .loop .inv .well) _ (c .before .before .before .before .before .before .before .if3 .taken) (c .before .before .before .before .place .ensures)
-
-mul-cell : tie.Need-mul-cell Inv-loop μ-loop
-mul-cell c = search needs
-
-element-set-from-cell : tie.Need-element-set-from-cell Inv-loop μ-loop
-element-set-from-cell c = search needs
-
-reply-requires : tie.Need-reply-requires Inv-loop μ-loop
-reply-requires c κs = search needs
-
-mul-t53 : tie.Need-mul-t53 Inv-loop μ-loop
-mul-t53 c = search needs
-
-element-set-from-t : tie.Need-element-set-from-t Inv-loop μ-loop
-element-set-from-t c = search needs
-
-mark-requires : tie.Need-mark-requires Inv-loop μ-loop
-mark-requires c κs = search needs
-
-array-write-used : tie.Need-array-write-used Inv-loop μ-loop
-array-write-used c = search needs
-
-answer-requires-2 : tie.Need-answer-requires-2 Inv-loop μ-loop
+answer-requires-2 : tie.Need-answer-requires-2 Inv-loop2 μ-loop2 Inv-loop3 μ-loop3 Inv-loop μ-loop
 answer-requires-2 c κs = search needs
 
-byte-requires : tie.Need-byte-requires Inv-loop μ-loop
+cast-j : tie.Need-cast-j Inv-loop2 μ-loop2 Inv-loop3 μ-loop3 Inv-loop μ-loop
+cast-j c = search needs
+
+mul-m : tie.Need-mul-m Inv-loop2 μ-loop2 Inv-loop3 μ-loop3 Inv-loop μ-loop
+mul-m c = search needs
+
+element-copy-out-m : tie.Need-element-copy-out-m Inv-loop2 μ-loop2 Inv-loop3 μ-loop3 Inv-loop μ-loop
+element-copy-out-m c = slot-near _ _ (c .before .before .before .slot-refusal .ensures) (c .before .if3 .taken)
+
+place-requires : tie.Need-place-requires Inv-loop2 μ-loop2 Inv-loop3 μ-loop3 Inv-loop μ-loop
+place-requires c κs = search needs
+
+row-requires : tie.Need-row-requires Inv-loop2 μ-loop2 Inv-loop3 μ-loop3 Inv-loop μ-loop
+row-requires c κs = search needs
+
+element-copy-out-q : tie.Need-element-copy-out-q Inv-loop2 μ-loop2 Inv-loop3 μ-loop3 Inv-loop μ-loop
+element-copy-out-q c = search needs
+
+mul-x : tie.Need-mul-x Inv-loop2 μ-loop2 Inv-loop3 μ-loop3 Inv-loop μ-loop
+mul-x c = search needs
+
+element-copy-out-x : tie.Need-element-copy-out-x Inv-loop2 μ-loop2 Inv-loop3 μ-loop3 Inv-loop μ-loop
+element-copy-out-x c = search needs
+
+arrived-requires : tie.Need-arrived-requires Inv-loop2 μ-loop2 Inv-loop3 μ-loop3 Inv-loop μ-loop
+arrived-requires c κs = arrivable _ (c .before .before .before .before .before .before .before .before .before .before .before .before .before .before .before .before .before .loop .inv .well) _ (slot-near _ _ (c .before .before .before .before .before .before .before .before .before .slot-refusal .ensures) (c .before .before .before .before .before .before .before .if3 .taken)) (c .before .before .before .before .place .ensures)
+
+mul-cell : tie.Need-mul-cell Inv-loop2 μ-loop2 Inv-loop3 μ-loop3 Inv-loop μ-loop
+mul-cell c = search needs
+
+element-set-from-cell : tie.Need-element-set-from-cell Inv-loop2 μ-loop2 Inv-loop3 μ-loop3 Inv-loop μ-loop
+element-set-from-cell c = search needs
+
+reply-requires : tie.Need-reply-requires Inv-loop2 μ-loop2 Inv-loop3 μ-loop3 Inv-loop μ-loop
+reply-requires c κs = search needs
+
+mul-t59 : tie.Need-mul-t59 Inv-loop2 μ-loop2 Inv-loop3 μ-loop3 Inv-loop μ-loop
+mul-t59 c = omega (arith, slot-near _ _ (c .before .before .before .before .before .before .before .before .before .before .before .before .slot-refusal .ensures) (c .before .before .before .before .before .before .before .before .before .before .if3 .taken))
+
+element-set-from-t : tie.Need-element-set-from-t Inv-loop2 μ-loop2 Inv-loop3 μ-loop3 Inv-loop μ-loop
+element-set-from-t c = slot-near _ _ (c .before .before .before .before .before .before .before .before .before .before .before .before .slot-refusal .ensures) (c .before .before .before .before .before .before .before .before .before .before .if3 .taken)
+
+tag-requires : tie.Need-tag-requires Inv-loop2 μ-loop2 Inv-loop3 μ-loop3 Inv-loop μ-loop
+tag-requires c κs = search needs
+
+mul-tags : tie.Need-mul-tags Inv-loop2 μ-loop2 Inv-loop3 μ-loop3 Inv-loop μ-loop
+mul-tags c = omega (arith, slot-near _ _ (c .before .before .before .before .before .before .before .before .before .before .before .before .before .slot-refusal .ensures) (c .before .before .before .before .before .before .before .before .before .before .before .if3 .taken))
+
+array-write-tags : tie.Need-array-write-tags Inv-loop2 μ-loop2 Inv-loop3 μ-loop3 Inv-loop μ-loop
+array-write-tags c = slot-near _ _ (c .before .before .before .before .before .before .before .before .before .before .before .before .before .slot-refusal .ensures) (c .before .before .before .before .before .before .before .before .before .before .before .if3 .taken)
+
+byte-requires : tie.Need-byte-requires Inv-loop2 μ-loop2 Inv-loop3 μ-loop3 Inv-loop μ-loop
 byte-requires c κs = search needs
 
-byte-requires-2 : tie.Need-byte-requires-2 Inv-loop μ-loop
+byte-requires-2 : tie.Need-byte-requires-2 Inv-loop2 μ-loop2 Inv-loop3 μ-loop3 Inv-loop μ-loop
 byte-requires-2 c κs = search needs
 
-place-requires-2 : tie.Need-place-requires-2 Inv-loop μ-loop
+place-requires-2 : tie.Need-place-requires-2 Inv-loop2 μ-loop2 Inv-loop3 μ-loop3 Inv-loop μ-loop
 place-requires-2 c κs = search needs
 
-mul-x-2 : tie.Need-mul-x-2 Inv-loop μ-loop
-mul-x-2 c = search needs
-
-element-copy-out-x-2 : tie.Need-element-copy-out-x-2 Inv-loop μ-loop
-element-copy-out-x-2 c = search needs
-
-lowest-free-requires : tie.Need-lowest-free-requires Inv-loop μ-loop
-lowest-free-requires c κs = search needs
-
-send-refusal-requires : tie.Need-send-refusal-requires Inv-loop μ-loop
-send-refusal-requires c κs = search needs
-
-answer-requires-3 : tie.Need-answer-requires-3 Inv-loop μ-loop
-answer-requires-3 c κs = search needs
-
-row-requires-2 : tie.Need-row-requires-2 Inv-loop μ-loop
+row-requires-2 : tie.Need-row-requires-2 Inv-loop2 μ-loop2 Inv-loop3 μ-loop3 Inv-loop μ-loop
 row-requires-2 c κs = search needs
 
-element-copy-out-q-2 : tie.Need-element-copy-out-q-2 Inv-loop μ-loop
+mul-x-2 : tie.Need-mul-x-2 Inv-loop2 μ-loop2 Inv-loop3 μ-loop3 Inv-loop μ-loop
+mul-x-2 c = search needs
+
+element-copy-out-x-2 : tie.Need-element-copy-out-x-2 Inv-loop2 μ-loop2 Inv-loop3 μ-loop3 Inv-loop μ-loop
+element-copy-out-x-2 c = search needs
+
+element-copy-out-q-2 : tie.Need-element-copy-out-q-2 Inv-loop2 μ-loop2 Inv-loop3 μ-loop3 Inv-loop μ-loop
 element-copy-out-q-2 c = search needs
 
-sent-cell-requires : tie.Need-sent-cell-requires Inv-loop μ-loop
-sent-cell-requires c κs = sendable _ (c .before .before .before .before .before .before .before .before .before .before .before .before .before .before .before .before .before .before .loop .inv .well) _ _ _ (c .before .before .before .before .before .before .before .before .before .before .before .before .before .before .before .before .before .before .loop .inv .sizes) (c .before .before .before .before .send-refusal .ensures) (c .before .before .if5 .taken) .amount
+lowest-free-requires : tie.Need-lowest-free-requires Inv-loop2 μ-loop2 Inv-loop3 μ-loop3 Inv-loop μ-loop
+lowest-free-requires c κs = search needs
 
-mul-t77 : tie.Need-mul-t77 Inv-loop μ-loop
-mul-t77 c = search needs
+send-refusal-requires : tie.Need-send-refusal-requires Inv-loop2 μ-loop2 Inv-loop3 μ-loop3 Inv-loop μ-loop
+send-refusal-requires c κs = search needs
 
-element-set-from-t-2 : tie.Need-element-set-from-t-2 Inv-loop μ-loop
+answer-requires-3 : tie.Need-answer-requires-3 Inv-loop2 μ-loop2 Inv-loop3 μ-loop3 Inv-loop μ-loop
+answer-requires-3 c κs = search needs
+
+sent-cell-requires : tie.Need-sent-cell-requires Inv-loop2 μ-loop2 Inv-loop3 μ-loop3 Inv-loop μ-loop
+sent-cell-requires c κs = sendable _ (c .before .before .before .before .before .before .before .before .before .before .before .before .before .before .before .before .before .before .loop .inv .well) _ _ _ (c .before .before .before .before .before .before .before .before .before .before .before .before .before .before .before .before .before .before .loop .inv .sizes) (c .before .before .send-refusal .ensures) (c .if5 .taken) .amount
+
+mul-t87 : tie.Need-mul-t87 Inv-loop2 μ-loop2 Inv-loop3 μ-loop3 Inv-loop μ-loop
+mul-t87 c = search needs
+
+element-set-from-t-2 : tie.Need-element-set-from-t-2 Inv-loop2 μ-loop2 Inv-loop3 μ-loop3 Inv-loop μ-loop
 element-set-from-t-2 c = search needs
 
-sent-message-requires : tie.Need-sent-message-requires Inv-loop μ-loop
-sent-message-requires c κs = sendable _ (c .before .before .before .before .before .before .before .before .before .before .before .before .before .before .before .before .before .before .before .loop .inv .well) _ _ _ (c .before .before .before .before .before .before .before .before .before .before .before .before .before .before .before .before .before .before .before .loop .inv .sizes) (c .before .before .before .before .before .send-refusal .ensures) (c .before .before .before .if5 .taken)
+sent-message-requires : tie.Need-sent-message-requires Inv-loop2 μ-loop2 Inv-loop3 μ-loop3 Inv-loop μ-loop
+sent-message-requires c κs = sendable _ (c .before .before .before .before .before .before .before .before .before .before .before .before .before .before .before .before .before .before .before .loop .inv .well) _ _ _ (c .before .before .before .before .before .before .before .before .before .before .before .before .before .before .before .before .before .before .before .loop .inv .sizes) (c .before .before .before .send-refusal .ensures) (c .before .if5 .taken)
 
-mul-t77-2 : tie.Need-mul-t77-2 Inv-loop μ-loop
-mul-t77-2 c = search needs
+mul-t87-2 : tie.Need-mul-t87-2 Inv-loop2 μ-loop2 Inv-loop3 μ-loop3 Inv-loop μ-loop
+mul-t87-2 c = search needs
 
-element-set-from-t-3 : tie.Need-element-set-from-t-3 Inv-loop μ-loop
-element-set-from-t-3 c = slot-found _ _ _ _ (c .before .before .before .before .before .before .send-refusal .ensures) (c .before .before .before .before .if5 .taken) (c .before .before .before .before .before .before .before .lowest-free .ensures .0)
+element-set-from-t-3 : tie.Need-element-set-from-t-3 Inv-loop2 μ-loop2 Inv-loop3 μ-loop3 Inv-loop μ-loop
+element-set-from-t-3 c = slot-found _ _ _ _ (c .before .before .before .before .send-refusal .ensures) (c .before .before .if5 .taken) (c .before .before .before .before .before .lowest-free .ensures .0)
 
-array-write-used-2 : tie.Need-array-write-used-2 Inv-loop μ-loop
-array-write-used-2 c = slot-found _ _ _ _ (c .before .before .before .before .before .before .send-refusal .ensures) (c .before .before .before .before .if5 .taken) (c .before .before .before .before .before .before .before .lowest-free .ensures .0)
+tag-requires-2 : tie.Need-tag-requires-2 Inv-loop2 μ-loop2 Inv-loop3 μ-loop3 Inv-loop μ-loop
+tag-requires-2 c κs = search needs
 
-cast-answer : tie.Need-cast-answer Inv-loop μ-loop
+mul-tags-2 : tie.Need-mul-tags-2 Inv-loop2 μ-loop2 Inv-loop3 μ-loop3 Inv-loop μ-loop
+mul-tags-2 c = search needs
+
+array-write-tags-2 : tie.Need-array-write-tags-2 Inv-loop2 μ-loop2 Inv-loop3 μ-loop3 Inv-loop μ-loop
+array-write-tags-2 c = slot-found _ _ _ _ (c .before .before .before .before .before .send-refusal .ensures) (c .before .before .before .if5 .taken) (c .before .before .before .before .before .before .lowest-free .ensures .0)
+
+cast-answer : tie.Need-cast-answer Inv-loop2 μ-loop2 Inv-loop3 μ-loop3 Inv-loop μ-loop
 cast-answer c = search needs
 
-answer-requires-4 : tie.Need-answer-requires-4 Inv-loop μ-loop
+answer-requires-4 : tie.Need-answer-requires-4 Inv-loop2 μ-loop2 Inv-loop3 μ-loop3 Inv-loop μ-loop
 answer-requires-4 c κs = search needs
 
-touched-requires : tie.Need-touched-requires Inv-loop μ-loop
-touched-requires c κs = search needs
-
-mul-cell-2 : tie.Need-mul-cell-2 Inv-loop μ-loop
-mul-cell-2 c = search needs
-
-element-set-from-cell-2 : tie.Need-element-set-from-cell-2 Inv-loop μ-loop
-element-set-from-cell-2 c = search needs
-
-cell-refusal-requires : tie.Need-cell-refusal-requires Inv-loop μ-loop
+cell-refusal-requires : tie.Need-cell-refusal-requires Inv-loop2 μ-loop2 Inv-loop3 μ-loop3 Inv-loop μ-loop
 cell-refusal-requires c κs = search needs
 
-answer-requires-5 : tie.Need-answer-requires-5 Inv-loop μ-loop
+answer-requires-5 : tie.Need-answer-requires-5 Inv-loop2 μ-loop2 Inv-loop3 μ-loop3 Inv-loop μ-loop
 answer-requires-5 c κs = search needs
 
-row-requires-3 : tie.Need-row-requires-3 Inv-loop μ-loop
-row-requires-3 c κs = search needs
+touch-requires : tie.Need-touch-requires Inv-loop2 μ-loop2 Inv-loop3 μ-loop3 Inv-loop μ-loop
+touch-requires c κs = search needs
 
-element-copy-out-next-serial : tie.Need-element-copy-out-next-serial Inv-loop μ-loop
-element-copy-out-next-serial c = search needs
+mul-t100 : tie.Need-mul-t100 Inv-loop2 μ-loop2 Inv-loop3 μ-loop3 Inv-loop μ-loop
+mul-t100 c = search needs
 
-next-serial-requires : tie.Need-next-serial-requires Inv-loop μ-loop
-next-serial-requires c κs = search needs
+element-set-from-t-4 : tie.Need-element-set-from-t-4 Inv-loop2 μ-loop2 Inv-loop3 μ-loop3 Inv-loop μ-loop
+element-set-from-t-4 c = search needs
 
-nine-of-requires : tie.Need-nine-of-requires Inv-loop μ-loop
-nine-of-requires c κs = search needs
+either-requires : tie.Need-either-requires Inv-loop2 μ-loop2 Inv-loop3 μ-loop3 Inv-loop μ-loop
+either-requires c κs = search needs
 
-renewal-refusal-requires : tie.Need-renewal-refusal-requires Inv-loop μ-loop
-renewal-refusal-requires c κs = search needs
-
-answer-requires-6 : tie.Need-answer-requires-6 Inv-loop μ-loop
+answer-requires-6 : tie.Need-answer-requires-6 Inv-loop2 μ-loop2 Inv-loop3 μ-loop3 Inv-loop μ-loop
 answer-requires-6 c κs = search needs
 
-renewed-cells-requires : tie.Need-renewed-cells-requires Inv-loop μ-loop
-renewed-cells-requires c κs = search needs
+mul-first : tie.Need-mul-first Inv-loop2 μ-loop2 Inv-loop3 μ-loop3 Inv-loop μ-loop
+mul-first c = search needs
 
-element-set-from-next : tie.Need-element-set-from-next Inv-loop μ-loop
-element-set-from-next c = search needs
+empty-cell-requires : tie.Need-empty-cell-requires Inv-loop2 μ-loop2 Inv-loop3 μ-loop3 Inv-loop μ-loop
+empty-cell-requires c κs = search needs
 
-mul-put : tie.Need-mul-put Inv-loop μ-loop
+loop2-holds : tie.Need-loop2-holds Inv-loop2 μ-loop2 Inv-loop3 μ-loop3 Inv-loop μ-loop
+loop2-holds c = (omega arith, refl, λ j h. absurd (omega arith))
+
+add-c : tie.Need-add-c Inv-loop2 μ-loop2 Inv-loop3 μ-loop3 Inv-loop μ-loop
+add-c c = search needs
+
+mul-c : tie.Need-mul-c Inv-loop2 μ-loop2 Inv-loop3 μ-loop3 Inv-loop μ-loop
+mul-c c = search needs
+
+element-copy-out-c : tie.Need-element-copy-out-c Inv-loop2 μ-loop2 Inv-loop3 μ-loop3 Inv-loop μ-loop
+element-copy-out-c c = search needs
+
+mul-nine : tie.Need-mul-nine Inv-loop2 μ-loop2 Inv-loop3 μ-loop3 Inv-loop μ-loop
+mul-nine c = search needs
+
+array-set-from-nine : tie.Need-array-set-from-nine Inv-loop2 μ-loop2 Inv-loop3 μ-loop3 Inv-loop μ-loop
+array-set-from-nine c = search needs
+
+add-from : tie.Need-add-from Inv-loop2 μ-loop2 Inv-loop3 μ-loop3 Inv-loop μ-loop
+add-from c = search needs
+
+loop2-less : tie.Need-loop2-less Inv-loop2 μ-loop2 Inv-loop3 μ-loop3 Inv-loop μ-loop
+loop2-less c = search needs
+
+loop2-again : tie.Need-loop2-again Inv-loop2 μ-loop2 Inv-loop3 μ-loop3 Inv-loop μ-loop
+loop2-again c = let w = c .before .before .loop2 in (omega arith, simp length-set (w .inv .1), table-more zeroCell (λ j x. x ≡ getD (c .before .before .before .before .before .before .before .before .before .before .before .before .before .before .before .before .before .before .before .before .before .loop .t .cells) (c .before .before .before .before .before .before .before .before .before .before .before .row2 .result * 9 + j) zeroCell) (w .nine) (w .from) _ (omega (arith, w .inv)) (w .inv .2) refl)
+
+next-serial-requires : tie.Need-next-serial-requires Inv-loop2 μ-loop2 Inv-loop3 μ-loop3 Inv-loop μ-loop
+next-serial-requires c κs = search needs
+
+tag-requires-3 : tie.Need-tag-requires-3 Inv-loop2 μ-loop2 Inv-loop3 μ-loop3 Inv-loop μ-loop
+tag-requires-3 c κs = search needs
+
+absent-requires : tie.Need-absent-requires Inv-loop2 μ-loop2 Inv-loop3 μ-loop3 Inv-loop μ-loop
+absent-requires c κs = search needs
+
+renewal-refusal-requires : tie.Need-renewal-refusal-requires Inv-loop2 μ-loop2 Inv-loop3 μ-loop3 Inv-loop μ-loop
+renewal-refusal-requires c κs = search needs
+
+answer-requires-7 : tie.Need-answer-requires-7 Inv-loop2 μ-loop2 Inv-loop3 μ-loop3 Inv-loop μ-loop
+answer-requires-7 c κs = search needs
+
+word-for-requires : tie.Need-word-for-requires Inv-loop2 μ-loop2 Inv-loop3 μ-loop3 Inv-loop μ-loop
+word-for-requires c κs = search needs
+
+cast-chosen : tie.Need-cast-chosen Inv-loop2 μ-loop2 Inv-loop3 μ-loop3 Inv-loop μ-loop
+cast-chosen c = omega (arith, c .before .before .before .before .before .before .before .before .before .before .before .before .before .before .before .before .before .before .before .before .before .byte2 .ensures .below)
+
+loop3-holds : tie.Need-loop3-holds Inv-loop2 μ-loop2 Inv-loop3 μ-loop3 Inv-loop μ-loop
+loop3-holds c = (omega arith, ap (withCells (c .before .before .before .before .before .before .before .before .before .before .before .before .before .before .before .before .before .before .before .before .before .before .before .before .before .before .before .before .before .loop .t)) (fill-none _ _ _))
+
+mul-c-2 : tie.Need-mul-c-2 Inv-loop2 μ-loop2 Inv-loop3 μ-loop3 Inv-loop μ-loop
+mul-c-2 c = search needs
+
+array-copy-out-c : tie.Need-array-copy-out-c Inv-loop2 μ-loop2 Inv-loop3 μ-loop3 Inv-loop μ-loop
+array-copy-out-c c = search needs
+
+renewed-requires : tie.Need-renewed-requires Inv-loop2 μ-loop2 Inv-loop3 μ-loop3 Inv-loop μ-loop
+renewed-requires c κs = search needs
+
+add-t120 : tie.Need-add-t120 Inv-loop2 μ-loop2 Inv-loop3 μ-loop3 Inv-loop μ-loop
+add-t120 c = omega (arith, c .before .before .before .before .before .before .before .before .before .before .before .before .before .before .before .before .before .before .before .before .before .before .before .row2 .ensures .below)
+
+mul-t124 : tie.Need-mul-t124 Inv-loop2 μ-loop2 Inv-loop3 μ-loop3 Inv-loop μ-loop
+mul-t124 c = omega (arith, c .before .before .before .before .before .before .before .before .before .before .before .before .before .before .before .before .before .before .before .before .before .before .before .row2 .ensures .below)
+
+element-set-from-t-5 : tie.Need-element-set-from-t-5 Inv-loop2 μ-loop2 Inv-loop3 μ-loop3 Inv-loop μ-loop
+element-set-from-t-5 c = omega (arith, c .before .before .before .before .before .before .before .before .before .before .before .before .before .before .before .before .before .before .before .before .before .before .before .row2 .ensures .below)
+
+add-to : tie.Need-add-to Inv-loop2 μ-loop2 Inv-loop3 μ-loop3 Inv-loop μ-loop
+add-to c = search needs
+
+loop3-less : tie.Need-loop3-less Inv-loop2 μ-loop2 Inv-loop3 μ-loop3 Inv-loop μ-loop
+loop3-less c = search needs
+
+loop3-again : tie.Need-loop3-again Inv-loop2 μ-loop2 Inv-loop3 μ-loop3 Inv-loop μ-loop
+loop3-again c = let w = c .before .before .before .loop3 in (omega arith, fill-cells _ (w .to) _ _ (w .inv .1) (c .renewed .ensures))
+
+element-set-from-next : tie.Need-element-set-from-next Inv-loop2 μ-loop2 Inv-loop3 μ-loop3 Inv-loop μ-loop
+element-set-from-next c = c .before .before .before .before .before .before .before .before .before .before .before .before .before .before .before .before .before .before .before .before .before .row2 .ensures .below
+
+mul-put : tie.Need-mul-put Inv-loop2 μ-loop2 Inv-loop3 μ-loop3 Inv-loop μ-loop
 mul-put c = search needs
 
-put-requires : tie.Need-put-requires Inv-loop μ-loop
+put-requires : tie.Need-put-requires Inv-loop2 μ-loop2 Inv-loop3 μ-loop3 Inv-loop μ-loop
 put-requires c κs = omega (arith, c .before .before .before .before .before .before .loop .inv .long, c .before .before .before .before .before .before .before .before .before .before .before .before .pre .2)
 
-add-i : tie.Need-add-i Inv-loop μ-loop
-add-i c = search needs
+add-i : tie.Need-add-i Inv-loop2 μ-loop2 Inv-loop3 μ-loop3 Inv-loop μ-loop
+add-i c = omega (arith, c .before .before .before .before .before .before .before .before .loop-test .taken)
 
-loop-less : tie.Need-loop-less Inv-loop μ-loop
-loop-less c = omega arith
+loop-less : tie.Need-loop-less Inv-loop2 μ-loop2 Inv-loop3 μ-loop3 Inv-loop μ-loop
+loop-less c = omega (arith, c .before .before .before .before .before .before .before .before .loop-test .taken)
 
--- where the arms meet: the state, the answer and the marks are those of the definition
-joined : (c : tie.Joined1 Inv-loop μ-loop) → Turned (c .before .before .before .before .before .loop .t) (c .before .before .decode .result) (c .if1 .t) (c .if1 .said) (c .if1 .used)
+-- where the arms meet: the state, the answer and the tags are those of the definition
+joined : (c : tie.Joined1 Inv-loop2 μ-loop2 Inv-loop3 μ-loop3 Inv-loop μ-loop)
+    → Turned (c .before .before .before .before .before .loop .t) (c .before .before .decode .result) (c .if1 .t) (c .if1 .said) (c .if1 .tags)
 joined c =
     let r = c .before .before .before .before .before .loop .inv in
     let t = c .before .before .before .before .before .loop .t in
     let e = c .before .before .decode .result in
-    let used = c .before .before .before .before .before .loop .used in
+    let tags = c .before .before .before .before .before .loop .tags in
     ⊎-elim
     (λ w.
-    same-turn (w .16) (w .17) (w .18)
-    (slot-turn t (r .sized) (r .well) e used (r .marked) (r .marks) (w .0 .taken) (w .1 .taken) (w .3 .taken) (w .6 .ensures) (w .7 .ensures) (r .sizes) (w .11 .ensures) (w .13 .ensures) (w .14 .ensures)))
+    same-turn (w .18) (w .19) (w .20)
+    (slot-turn t (r .sized) (r .well) e tags (r .tagged) (r .slots) (w .0 .taken) (w .1 .taken) (w .3 .ensures) (w .5 .taken) (w .8 .ensures) (w .9 .ensures) (r .sizes) (w .13 .ensures) (w .15 .ensures) (w .16 .ensures)))
     (⊎-elim
-    (λ w. same-turn (w .5) (w .6) (w .7) (beyond-turn t (r .sized) (r .well) e used (r .marked) (r .marks) (w .0 .taken) (w .1 .taken) (w .3 .left) (w .4 .ensures)))
+    (λ w. same-turn (w .6) (w .7) (w .8) (slot-refused t (r .sized) (r .well) e tags (r .tagged) (r .slots) (w .0 .taken) (w .1 .taken) (w .3 .ensures) (w .5 .left) (w .4 .ensures)))
     (⊎-elim
     (λ w.
-    same-turn (w .17) (w .18) (w .19)
-    (send-turn t (r .sized) (r .well) e used (r .marked) (r .marks) (w .0 .taken) (w .1 .left) (w .2 .ensures) (w .3 .ensures) (w .4 .ensures) (r .sizes) (w .6 .taken) (w .8 .ensures .1) (w .9 .ensures) (w .11 .taken)
-    (w .8 .ensures .0) (w .12 .ensures) (w .14 .ensures) (w .15 .ensures) (w .16 .ensures)))
+    same-turn (w .18) (w .19) (w .20)
+    (send-turn t (r .sized) (r .well) e tags (r .tagged) (r .slots) (w .0 .taken) (w .1 .left) (w .2 .ensures) (w .3 .ensures) (w .4 .ensures) (r .sizes) (w .8 .taken) (w .10 .ensures .1) (w .11 .ensures) (w .13 .taken)
+    (w .10 .ensures .0) (w .5 .ensures) (w .14 .ensures) (w .15 .ensures) (w .16 .ensures) (w .17 .ensures)))
+    (⊎-elim
+    (λ w.
+    same-turn (w .14) (w .15) (w .16)
+    (send-refused t (r .sized) (r .well) e tags (r .tagged) (r .slots) (w .0 .taken) (w .1 .left) (w .2 .ensures) (w .3 .ensures) (w .4 .ensures) (r .sizes) (w .8 .taken) (w .10 .ensures .1) (w .11 .ensures) (w .13 .left) (w .12 .ensures)))
+    (⊎-elim
+    (λ w.
+    same-turn (w .16) (w .17) (w .18)
+    (touch-turn t (r .sized) (r .well) e tags (r .tagged) (r .slots) (w .0 .taken) (w .1 .left) (w .2 .ensures) (w .3 .ensures) (w .4 .ensures) (r .sizes) (w .8 .left) (w .9 .ensures) (w .11 .taken) (w .12 .taken) (w .13 .ensures) (w .14 .ensures) (w .15 .ensures)))
+    (⊎-elim
+    (λ w.
+    same-turn (w .27) (w .28) (w .29)
+    (renewal-turn t (r .sized) (r .well) e tags (r .tagged) (r .slots) (w .0 .taken) (w .1 .left) (w .2 .ensures) (w .3 .ensures) (w .4 .ensures) (r .sizes) (w .8 .left) (w .9 .ensures) (w .11 .taken) (w .12 .left) (w .5 .ensures) (w .16 .ensures)
+    (record { same = λ j h. w .14 .inv .2 j (omega (arith, w .15 .left)) }) (w .18 .ensures) (w .19 .ensures) (w .20 .ensures) (w .22 .taken) (w .24 .ensures) (omega (arith, w .25 .inv .0, w .26 .left)) (w .25 .inv .1) (w .21 .ensures)))
+    (⊎-elim
+    (λ w.
+    same-turn (w .23) (w .24) (w .25)
+    (renewal-refused t (r .sized) (r .well) e tags (r .tagged) (r .slots) (w .0 .taken) (w .1 .left) (w .2 .ensures) (w .3 .ensures) (w .4 .ensures) (r .sizes) (w .8 .left) (w .9 .ensures) (w .11 .taken) (w .12 .left) (w .5 .ensures) (w .16 .ensures)
+    (record { same = λ j h. w .14 .inv .2 j (omega (arith, w .15 .left)) }) (w .18 .ensures) (w .19 .ensures) (w .20 .ensures) (w .22 .left) (w .21 .ensures)))
     (⊎-elim
     (λ w.
     same-turn (w .12) (w .13) (w .14)
-    (send-refused t (r .sized) (r .well) e used (r .marked) (r .marks) (w .0 .taken) (w .1 .left) (w .2 .ensures) (w .3 .ensures) (w .4 .ensures) (r .sizes) (w .6 .taken) (w .8 .ensures .1) (w .9 .ensures) (w .11 .left) (w .10 .ensures)))
-    (⊎-elim
-    (λ w.
-    same-turn (w .11) (w .12) (w .13)
-    (touch-turn t (r .sized) (r .well) e used (r .marked) (r .marks) (w .0 .taken) (w .1 .left) (w .2 .ensures) (w .3 .ensures) (w .4 .ensures) (r .sizes) (w .6 .left) (w .7 .taken) (w .8 .ensures)))
-    (⊎-elim
-    (λ w.
-    same-turn (w .22) (w .23) (w .24)
-    (renewal-turn t (r .sized) (r .well) e used (r .marked) (r .marks) (w .0 .taken) (w .1 .left) (w .2 .ensures) (w .3 .ensures) (w .4 .ensures) (r .sizes) (w .7 .left) (w .8 .ensures) (w .10 .taken) (w .11 .ensures) (w .13 .ensures) (w .16 .ensures) (w .17 .ensures)
-    (w .19 .taken) (w .21 .ensures) (w .18 .ensures)))
-    (⊎-elim
-    (λ w.
-    same-turn (w .20) (w .21) (w .22)
-    (renewal-refused t (r .sized) (r .well) e used (r .marked) (r .marks) (w .0 .taken) (w .1 .left) (w .2 .ensures) (w .3 .ensures) (w .4 .ensures) (r .sizes) (w .7 .left) (w .8 .ensures) (w .10 .taken) (w .11 .ensures) (w .13 .ensures) (w .16 .ensures) (w .17 .ensures)
-    (w .19 .left) (w .18 .ensures)))
-    (⊎-elim
-    (λ w.
-    same-turn (w .11) (w .12) (w .13)
-    (cause-refused t (r .sized) (r .well) e used (r .marked) (r .marks) (w .0 .taken) (w .1 .left) (w .2 .ensures) (w .3 .ensures) (w .4 .ensures) (r .sizes) (w .7 .left) (w .8 .ensures) (w .10 .left) (w .9 .ensures)))
-    (λ w. same-turn (w .1) (w .2) (w .3) (above-turn t (r .sized) (r .well) e used (r .marked) (r .marks) (w .0 .left) (c .before .answer .ensures))))))))))
+    (cell-refused t (r .sized) (r .well) e tags (r .tagged) (r .slots) (w .0 .taken) (w .1 .left) (w .2 .ensures) (w .3 .ensures) (w .4 .ensures) (r .sizes) (w .8 .left) (w .9 .ensures) (w .11 .left) (w .10 .ensures)))
+    (λ w. same-turn (w .1) (w .2) (w .3) (above-turn t (r .sized) (r .well) e tags (r .tagged) (r .slots) (w .0 .left) (c .before .answer .ensures))))))))))
     (c .if1 .came)
 
-loop-again : tie.Need-loop-again Inv-loop μ-loop
+loop-again : tie.Need-loop-again Inv-loop2 μ-loop2 Inv-loop3 μ-loop3 Inv-loop μ-loop
 loop-again c = let l = c .before .before .before .before .before .before .before .before .before .loop in goes-on (l .inv) (c .before .before .before .before .before .before .before .before .loop-test .taken) (c .before .before .before .before .before .before .decode .ensures ∙ event-part (drop (l .i * 8) (c .before .before .before .before .before .before .before .before .before .before .before .before .before .before .before .args .events .now)) (l .i * 8 + 8 - l .i * 8) (omega arith)) (joined (c .before .before .before .before)) (c .before .before .put .ensures)
 
-same-length : tie.Need-same-length Inv-loop μ-loop
+same-length : tie.Need-same-length Inv-loop2 μ-loop2 Inv-loop3 μ-loop3 Inv-loop μ-loop
 same-length c = c .before .loop .inv .long
 
-returns : tie.Need-returns Inv-loop μ-loop
+returns : tie.Need-returns Inv-loop2 μ-loop2 Inv-loop3 μ-loop3 Inv-loop μ-loop
 returns c = ends (c .before .loop .inv) (omega arith)
 
 pub run-spec : {M : Type 1} → statement M
 run-spec =
     tie.close
     (tie.spec
+    Inv-loop2
+    μ-loop2
+    Inv-loop3
+    μ-loop3
     Inv-loop
     μ-loop
-    marks-of-requires
+    tags-of-requires
     loop-holds
     mul-at
     add-decode
@@ -276,6 +381,8 @@ run-spec =
     part-decode-end
     decode-requires
     answer-requires
+    slot-refusal-requires
+    answer-requires-2
     cast-j
     mul-m
     element-copy-out-m
@@ -288,42 +395,67 @@ run-spec =
     mul-cell
     element-set-from-cell
     reply-requires
-    mul-t53
+    mul-t59
     element-set-from-t
-    mark-requires
-    array-write-used
-    answer-requires-2
+    tag-requires
+    mul-tags
+    array-write-tags
     byte-requires
     byte-requires-2
     place-requires-2
+    row-requires-2
     mul-x-2
     element-copy-out-x-2
+    element-copy-out-q-2
     lowest-free-requires
     send-refusal-requires
     answer-requires-3
-    row-requires-2
-    element-copy-out-q-2
     sent-cell-requires
-    mul-t77
+    mul-t87
     element-set-from-t-2
     sent-message-requires
-    mul-t77-2
+    mul-t87-2
     element-set-from-t-3
-    array-write-used-2
+    tag-requires-2
+    mul-tags-2
+    array-write-tags-2
     cast-answer
     answer-requires-4
-    touched-requires
-    mul-cell-2
-    element-set-from-cell-2
     cell-refusal-requires
     answer-requires-5
-    row-requires-3
-    element-copy-out-next-serial
-    next-serial-requires
-    nine-of-requires
-    renewal-refusal-requires
+    touch-requires
+    mul-t100
+    element-set-from-t-4
+    either-requires
     answer-requires-6
-    renewed-cells-requires
+    mul-first
+    empty-cell-requires
+    loop2-holds
+    add-c
+    mul-c
+    element-copy-out-c
+    mul-nine
+    array-set-from-nine
+    add-from
+    loop2-less
+    loop2-again
+    next-serial-requires
+    tag-requires-3
+    absent-requires
+    renewal-refusal-requires
+    answer-requires-7
+    word-for-requires
+    cast-chosen
+    loop3-holds
+    mul-c-2
+    array-copy-out-c
+    renewed-requires
+    add-t120
+    mul-t124
+    element-set-from-t-5
+    add-to
+    loop3-less
+    loop3-again
     element-set-from-next
     mul-put
     put-requires
