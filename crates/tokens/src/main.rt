@@ -7,6 +7,8 @@ ghost use mathlib.Core.Path.{_≡_};
 ghost use lib.ListN.{length};
 ghost use Rattle.text.specs.Lines.{linesOf};
 ghost use Rattle.trace.specs.Program.{keptBy};
+ghost use Rattle.trace.specs.Chunks.{lent};
+ghost use Rattle.trace.specs.Parts.{Roomy};
 
 // What is kept after lines were answered, and whether their answers could be written.
 struct Answered {
@@ -21,15 +23,22 @@ fn send(out: &[u8], size: usize) -> bool
 }
 
 // Answers all lines of `s`, as many at a time as there is room for.
-fn answer_all(kept: Kept, s: &[u8], out: &mut [u8]) -> Answered
-    requires { ⌜ 33 ≤ length (now out) ⌝ }
+fn answer_all(
+    kept: Kept,
+    s: &[u8],
+    words: &mut [u32],
+    marks: &mut [u8],
+    answers: &mut [u32],
+    out: &mut [u8],
+) -> Answered
+    requires { ⌜ Roomy (lent (now words) (now marks) (now answers) (now out)) ⌝ }
     ensures { λ r. ⌜ (r .written ≡ true → r .kept ≡ keptBy kept (linesOf (now (s .entry)))) ⌝ }
 {
     let n = s.len();
     let mut now_kept = kept;
     let mut at: usize = 0;
     while at < n {
-        let a = trace::advance(now_kept, &s[at..n], out);
+        let a = trace::advance(now_kept, &s[at..n], words, marks, answers, out);
         let next = a.kept;
         now_kept = next;
         at += a.read;
@@ -62,8 +71,8 @@ fn ready(s: &[u8], last: bool) -> usize
 }
 
 // Reads and answers to the end of input, or until a write fails.
-fn run(buf: &mut [u8], out: &mut [u8])
-    requires { ⌜ (97 < length (now buf)) × (33 ≤ length (now out)) ⌝ }
+fn run(buf: &mut [u8], words: &mut [u32], marks: &mut [u8], answers: &mut [u32], out: &mut [u8])
+    requires { ⌜ (97 < length (now buf)) × Roomy (lent (now words) (now marks) (now answers) (now out)) ⌝ }
 {
     let mut kept = trace::unstarted();
     let mut have: usize = 0;
@@ -73,7 +82,7 @@ fn run(buf: &mut [u8], out: &mut [u8])
         let total = have + more;
         let last = more == 0;
         let end = ready(&buf[0..total], last);
-        let a = answer_all(kept, &buf[0..end], out);
+        let a = answer_all(kept, &buf[0..end], words, marks, answers, out);
         if last {
             return;
         }
@@ -87,8 +96,12 @@ fn run(buf: &mut [u8], out: &mut [u8])
     }
 }
 
+// Makes the lists once, with room for 2048 lines: to make them for each call costs as much as an eighth of a line.
 fn main() {
     let mut buf = io::large_buffer();
+    let mut words = [0u32; 16384];
+    let mut marks = [0u8; 2048];
+    let mut answers = [0u32; 6144];
     let mut out = [0u8; 67584];
-    run(&mut buf, &mut out);
+    run(&mut buf, &mut words, &mut marks, &mut answers, &mut out);
 }

@@ -1,29 +1,27 @@
 -- One batch over the events among lines answers as the lines do one after the other. Assumes nothing.
-use Prim.Native.Nat.{ℕ, zero, suc, _+_, _-_, _*_, _/_, _%_, _≤_, _<_, min}
+use Prim.Native.Nat.{ℕ, suc, _+_, _-_, _*_, _/_, _%_, _≤_, _<_, min}
 use mathlib.Core.Path.{_≡_, refl, sym, ap, _∙_}
 use mathlib.Core.Bool.{Bool, true, false, cond}
 use mathlib.Core.List.{List, [], _∷_, _++_, map}
 use mathlib.Core.Option.{Option, none, some}
 use native.Mathlib.Omega.{arith}
+use native.Mathlib.Nat.{sub-zero}
 use borrow.Author.Tests.{eqb-true, eq-eqb, le-leb, le-ltb}
-use lib.Dec.{eqb, leb}
-use lib.ListN.{length, getD, take, drop, length-append, length-map, length-take, List·getD-append}
+use lib.Dec.{eqb}
+use lib.ListN.{length, getD, take, drop, length-append, length-map, length-take, length-drop, List·getD-append}
 use lib.Seq.{sets, sets-eq, take-at, drop-at}
 use Rattle.model.specs.declared.states.State.{State}
-use Rattle.model.specs.declared.events.Event.{Event}
 use Rattle.model.specs.declared.events.Answer.{Answer}
 use Rattle.model.specs.declared.events.Batched.{Batched}
 use Rattle.model.specs.Effects.{stepOf}
 use Rattle.model.specs.Runs.{runOf, answersOf, eventOf, eventsTo, eventsOf, wordsOf, batchNumber, batchOf, batchAnswers}
 use Rattle.text.specs.declared.chunks.Parsed.{Parsed}
-use Rattle.text.specs.Lines.{linesOf, passedBy}
+use Rattle.text.specs.Lines.{linesOf}
 use Rattle.text.specs.Reading.{numbersOf, exactly}
 use Rattle.text.specs.Writing.{answerText}
 use Rattle.text.specs.Chunks.{known, isKnown, eventIn, markOf, wordsIn, room, Parses, answersText, printed, printedCount}
-use Rattle.trace.specs.declared.kept.Kept.{Kept}
-use Rattle.trace.specs.declared.kept.Advanced.{Advanced}
 use Rattle.trace.specs.Program.{unreadable, eventLine, lineDoes, keptAfter, lineText, keptBy, printedBy}
-use Rattle.trace.specs.Chunks.{mostLines, linesTaken, advanced, outAfter}
+use Rattle.trace.specs.Chunks.{Lent, lent, mostLines, linesTaken, advanced, lentAfter}
 use Rattle.trace.specs.Parts.{running}
 
 -- ---- the events among lines
@@ -143,49 +141,75 @@ room-printed : (d ms ws t : List ℕ) → length ms ≤ length d / 33 → length
 unfolding printedCount printed
 room-printed d ms ws t h k e = rw (le-leb _ _ h, le-leb _ _ k, e) (refl, refl)
 
-module _ (s : State) (src out words₀ marks₀ answers₀ : List ℕ) (long-words : length words₀ ≡ 16384) (long-marks : length marks₀ ≡ 2048)
-    (long-answers : length answers₀ ≡ 6144) where
+-- the lists that were lent hold the words and the marks, however many lines were asked for
+pub parsed-within : (n : ℕ) (src words marks words′ marks′ : List ℕ) (p : Parsed) → Parses src (room n words marks) words marks words′ marks′ p
+    → (p .words ≤ length words) × (p .lines ≤ length marks)
+parsed-within n src words marks words′ marks′ p g =
+    let l = length-take (room n words marks) (linesOf src) in
+    let w = words-count (take (room n words marks) (linesOf src)) in
+    let e = w .1 in
+    let h = w .2 in
+    let a = g .lines in
+    let b = g .count in
+    (omega arith, omega arith)
+
+-- what replaced the front
+front-is : (v l : List ℕ) (n : ℕ) → n ≤ length l → length (v ++ drop n l) ≡ length l → v ++ drop n l ≡ sets l 0 v
+front-is v l n h g =
+    let a = length-append v (drop n l) in
+    let d = length-drop n l in
+    let e : 0 + length v ≡ n = omega arith in
+    sym (sets-eq v l 0 (omega arith) ∙ rw e)
+
+module _ (s : State) (src : List ℕ) (l : Lent) where
   abbrev ls : List (List ℕ)
-  ls = linesTaken (running s) src out
+  ls = linesTaken (running s) src l
 
-  room-is : room (length out / 33) words₀ marks₀ ≡ mostLines (running s) out
-  room-is = rw (long-words, long-marks)
+  few : (length ls ≤ length (l .out) / 33) × (length ls ≤ length (l .marks)) × (length ls ≤ length (l .answers) / 3) × (8 * length ls ≤ length (l .words))
+  few = let e = length-take (mostLines (running s) l) (linesOf src) in (omega arith, omega arith, omega arith, omega arith)
 
-  few : (length ls ≤ length out / 33) × (length ls ≤ 2048)
-  few = let l = length-take (mostLines (running s) out) (linesOf src) in (omega arith, omega arith)
-
-  words-short : length (wordsIn ls) ≤ 16384
+  words-short : length (wordsIn ls) ≤ length (l .words)
   words-short = let n = words-count ls in let e = n .1 in let h = n .2 in let f = few in omega arith
 
-  -- the lists that were lent hold the words and the marks
-  pub parsed-within : (words marks : List ℕ) (p : Parsed) → Parses src (room (length out / 33) words₀ marks₀) words₀ marks₀ words marks p
-      → (p .words ≤ 16384) × (p .lines ≤ 2048)
-  parsed-within words marks p g =
-      let f = few in
-      let w = words-short in
-      let a = g .lines ∙ ap (λ (k : ℕ). length (take k (linesOf src))) room-is in
-      let b = g .count ∙ ap (λ (k : ℕ). length (wordsIn (take k (linesOf src)))) room-is in
-      (omega arith, omega arith)
+  roomy : 3 * length ls ≤ length (l .answers)
+  roomy = let f = few in omega arith
 
-  pub chunk : (words marks : List ℕ) (p : Parsed) → Parses src (room (length out / 33) words₀ marks₀) words₀ marks₀ words marks p
-      → (ws ms : List ℕ) → ws ≡ take (p .words) words → ms ≡ take (p .lines) marks
-      → (b : Batched) (answers : List ℕ) → (b ≡ batchOf s ws answers₀) × (answers ≡ batchAnswers s ws answers₀) → length answers ≡ 6144
-      → (k : ℕ) (out′ : List ℕ) → (k ≡ printedCount out ms answers) × (out′ ≡ printed out ms answers)
-      → (record { kept = running (b .state); read = p .next; written = k } ≡ advanced (running s) src out) × (out′ ≡ outAfter (running s) src out)
-  unfolding advanced outAfter
-  chunk words marks p g ws ms ew em b answers f long k out′ x =
+  answers-put : (answers : List ℕ) → answers ≡ batchAnswers s (wordsIn ls) (l .answers) → length answers ≡ length (l .answers)
+      → answers ≡ sets (l .answers) 0 (wordsOf (answersOf s (eventsOf (wordsIn ls))))
+  unfolding batchAnswers
+  answers-put answers f long =
+      let n = words-count ls in
+      let e = n .1 in
+      let h = n .2 in
+      let r = roomy in
+      let g = rw (accepted s ls (l .answers) roomy) at f in
+      g ∙ front-is (wordsOf (answersOf s (eventsOf (wordsIn ls)))) (l .answers) (3 * (length (wordsIn ls) / 8)) (omega arith) (sym (ap length g) ∙ long)
+
+  -- the lines are parsed, their events run, their answers printed: a part lent from place 0 on has its length less 0
+  pub chunk : (n : ℕ) → n ≡ min (length (l .out) / 33) (length (l .answers) / 3) → (words marks : List ℕ) (p : Parsed)
+      → Parses src (room n (l .words) (l .marks)) (l .words) (l .marks) words marks p
+      → (b : Batched) (answers : List ℕ)
+      → (b ≡ batchOf s (take (p .words - 0) words) (l .answers)) × (answers ≡ batchAnswers s (take (p .words - 0) words) (l .answers))
+      → length answers ≡ length (l .answers) → (k : ℕ) (out : List ℕ)
+      → (k ≡ printedCount (l .out) (take (p .lines - 0) marks) answers) × (out ≡ printed (l .out) (take (p .lines - 0) marks) answers)
+      → (record { kept = running (b .state); read = p .next; written = k } ≡ advanced (running s) src l)
+      × (lent words marks answers out ≡ lentAfter (running s) src l)
+  unfolding advanced lentAfter
+  chunk n en words marks p g b answers f long k out x =
+      let room-is : room n (l .words) (l .marks) ≡ mostLines (running s) l = omega arith in
       let m = rw room-is at g in
-      let w : ws ≡ wordsIn ls = ew ∙ rw (m .count, m .events) (take-sets (wordsIn ls) words₀ (let h = words-short in omega arith)) in
-      let l = length-map ls markOf in
-      let v : ms ≡ map markOf ls = em ∙ rw (m .lines, m .marked, ← l) (take-sets (map markOf ls) marks₀ (let h = few in omega arith)) in
-      let roomy : 3 * length ls ≤ length answers₀ = let h = few in omega arith in
+      let w : take (p .words - 0) words ≡ wordsIn ls = rw (sub-zero (p .words), m .count, m .events) (take-sets (wordsIn ls) (l .words) words-short) in
+      let e = length-map ls markOf in
+      let v : take (p .lines - 0) marks ≡ map markOf ls = rw (sub-zero (p .lines), m .lines, m .marked, ← e) (take-sets (map markOf ls) (l .marks) (let h = few in omega arith)) in
+      let fa : answers ≡ batchAnswers s (wordsIn ls) (l .answers) = f .1 ∙ ap (λ (x : List ℕ). batchAnswers s x (l .answers)) w in
       let st : running (b .state) ≡ keptBy (running s) ls =
-      ap (λ (r : Batched). running (r .state)) (f .0 ∙ ap (λ (e : List ℕ). batchOf s e answers₀) w) ∙ batch-state s ls answers₀ roomy in
+      ap (λ (r : Batched). running (r .state)) (f .0 ∙ ap (λ (x : List ℕ). batchOf s x (l .answers)) w) ∙ batch-state s ls (l .answers) roomy in
       let tx : answersText (map markOf ls) answers ≡ printedBy (running s) ls =
-      ap (answersText (map markOf ls)) (f .1 ∙ ap (λ (e : List ℕ). batchAnswers s e answers₀) w) ∙ batch-text s ls answers₀ roomy in
-      let q = room-printed out (map markOf ls) answers (printedBy (running s) ls) (let h = few in omega arith) (let h = few in omega arith) tx in
-      let kk : k ≡ length (printedBy (running s) ls) = x .0 ∙ ap (λ (e : List ℕ). printedCount out e answers) v ∙ q .0 in
-      let rd : p .next ≡ passedBy (mostLines (running s) out) src = m .next in (
-        (λ i. record { kept = st i; read = rd i; written = kk i }),
-        x .1 ∙ ap (λ (e : List ℕ). printed out e answers) v ∙ q .1,
+      ap (answersText (map markOf ls)) fa ∙ batch-text s ls (l .answers) roomy in
+      let q = room-printed (l .out) (map markOf ls) answers (printedBy (running s) ls) (let h = few in omega arith) (let h = few in omega arith) tx in
+      let kk : k ≡ length (printedBy (running s) ls) = x .0 ∙ ap (λ (y : List ℕ). printedCount (l .out) y answers) v ∙ q .0 in
+      let oo : out ≡ sets (l .out) 0 (printedBy (running s) ls) = x .1 ∙ ap (λ (y : List ℕ). printed (l .out) y answers) v ∙ q .1 in
+      let aa = answers-put answers fa long in (
+        (λ i. record { kept = st i; read = m .next i; written = kk i }),
+        (λ i. record { words = m .events i; marks = m .marked i; answers = aa i; out = oo i }),
       )

@@ -1,8 +1,8 @@
 -- How far one call goes, and that calls in turn go all the way. Assumes nothing.
 use Prim.Native.Nat.{ℕ, zero, suc, _+_, _-_, _*_, _/_, _≤_, _<_, min}
-use mathlib.Core.Path.{_≡_, refl, sym, ap, subst, _∙_}
+use mathlib.Core.Path.{_≡_, sym, ap, subst, _∙_}
 use mathlib.Core.Bool.{Bool, true, false, cond}
-use mathlib.Core.List.{List, [], _∷_, _++_}
+use mathlib.Core.List.{List, [], _∷_}
 use native.Mathlib.Omega.{arith}
 use lib.Dec.{eqb}
 use lib.Seq.{drop-drop, take-all}
@@ -14,7 +14,8 @@ use Rattle.text.proofs.Answers.{answer-short}
 use Rattle.trace.specs.declared.kept.Kept.{Kept}
 use Rattle.trace.specs.declared.kept.Advanced.{Advanced}
 use Rattle.trace.specs.Program.{keptAfter, lineDoes, lineText, keptBy, printedBy}
-use Rattle.trace.specs.Chunks.{mostLines, linesTaken, advanced}
+use Rattle.trace.specs.Chunks.{Lent, roomIn, mostLines, linesTaken, advanced}
+use Rattle.trace.specs.Parts.{Roomy}
 use Rattle.trace.proofs.Lists.{kept-append, lines-split}
 
 text-short : (a : Answer) → length (lineText a) ≤ 33
@@ -58,57 +59,57 @@ unfolding passedBy
 passed-by-some zero s h k = absurd (omega arith)
 passed-by-some (suc n) s h k = let p = passed-some s k in omega arith
 
-at-least-one : (t : Bool) (m : ℕ) → 0 < m → 0 < min m (pick t 2048 1)
-at-least-one true m h = omega arith
-at-least-one false m h = omega arith
+at-least-one : (t : Bool) (m n : ℕ) → 0 < m → 0 < n → 0 < min m (pick t n 1)
+at-least-one true m n h g = omega arith
+at-least-one false m n h g = omega arith
 
-module _ (k : Kept) (s out : List ℕ) where
-  pub written-fits : advanced k s out .written ≤ length out
+module _ (k : Kept) (s : List ℕ) (l : Lent) where
+  pub written-fits : advanced k s l .written ≤ length (l .out)
   unfolding advanced
   written-fits =
-      let p = printed-short (linesTaken k s out) k in
-      let l = length-take (mostLines k out) (linesOf s) in
+      let p = printed-short (linesTaken k s l) k in
+      let e = length-take (mostLines k l) (linesOf s) in
       omega arith
 
-  pub read-within : advanced k s out .read ≤ length s
+  pub read-within : advanced k s l .read ≤ length s
   unfolding advanced
-  read-within = passed-by-within (mostLines k out) s
+  read-within = passed-by-within (mostLines k l) s
 
-  pub read-some : 0 < length s → 33 ≤ length out → 0 < advanced k s out .read
+  pub read-some : 0 < length s → Roomy l → 0 < advanced k s l .read
   unfolding advanced
-  read-some h g = passed-by-some (mostLines k out) s (at-least-one (k .started) (length out / 33) (omega arith)) h
+  read-some h g = passed-by-some (mostLines k l) s (at-least-one (k .started) (length (l .out) / 33) (roomIn l) (omega arith) (omega arith)) h
 
   -- a call, and then the lines that are left
-  pub kept-on : keptBy (advanced k s out .kept) (linesOf (drop (advanced k s out .read) s)) ≡ keptBy k (linesOf s)
+  pub kept-on : keptBy (advanced k s l .kept) (linesOf (drop (advanced k s l .read) s)) ≡ keptBy k (linesOf s)
   unfolding advanced
-  kept-on = sym (ap (keptBy k) (lines-split (mostLines k out) s) ∙ kept-append (linesTaken k s out) _ k)
+  kept-on = sym (ap (keptBy k) (lines-split (mostLines k l) s) ∙ kept-append (linesTaken k s l) _ k)
 
 -- a call on the lines from a place on
-pub record Turn (s : List ℕ) (at : ℕ) (k : Kept) (out : List ℕ) (r : Advanced) : Type 0 where
-  pub fits : r .written ≤ length out
+pub record Turn (s : List ℕ) (at : ℕ) (k : Kept) (l : Lent) (r : Advanced) : Type 0 where
+  pub fits : r .written ≤ length (l .out)
   pub within : at + r .read ≤ length s
   pub on : 0 < r .read
   pub kept : keptBy (r .kept) (linesOf (drop (at + r .read) s)) ≡ keptBy k (linesOf (drop at s))
 
-turn-at : (s : List ℕ) (at : ℕ) (k : Kept) (out : List ℕ) → at < length s → 33 ≤ length out → Turn s at k out (advanced k (drop at s) out)
-turn-at s at k out h room =
-    let l = length-drop at s in
-    let w = read-within k (drop at s) out in
+turn-at : (s : List ℕ) (at : ℕ) (k : Kept) (l : Lent) → at < length s → Roomy l → Turn s at k l (advanced k (drop at s) l)
+turn-at s at k l h room =
+    let d = length-drop at s in
+    let w = read-within k (drop at s) l in
     record {
-      fits = written-fits k (drop at s) out;
+      fits = written-fits k (drop at s) l;
       within = omega arith;
-      on = read-some k (drop at s) out (omega arith) room;
+      on = read-some k (drop at s) l (omega arith) room;
       kept =
-          ap (λ (t : List ℕ). keptBy (advanced k (drop at s) out .kept) (linesOf t)) (sym (drop-drop (advanced k (drop at s) out .read) at s))
-          ∙ kept-on k (drop at s) out;
+          ap (λ (t : List ℕ). keptBy (advanced k (drop at s) l .kept) (linesOf t)) (sym (drop-drop (advanced k (drop at s) l .read) at s))
+          ∙ kept-on k (drop at s) l;
     }
 
-pub turn : (s : List ℕ) (at : ℕ) (k : Kept) (out : List ℕ) → at < length s → 33 ≤ length out → (r : Advanced)
-    → r ≡ advanced k (take (length s - at) (drop at s)) out → Turn s at k out r
-turn s at k out h room r e =
-    let p : r ≡ advanced k (drop at s) out =
-    e ∙ ap (λ (t : List ℕ). advanced k t out) (take-all (length s - at) (drop at s) (let l = length-drop at s in omega arith)) in
-    subst (Turn s at k out) (sym p) (turn-at s at k out h room)
+pub turn : (s : List ℕ) (at : ℕ) (k : Kept) (l : Lent) → at < length s → Roomy l → (r : Advanced)
+    → r ≡ advanced k (take (length s - at) (drop at s)) l → Turn s at k l r
+turn s at k l h room r e =
+    let p : r ≡ advanced k (drop at s) l =
+    e ∙ ap (λ (t : List ℕ). advanced k t l) (take-all (length s - at) (drop at s) (let d = length-drop at s in omega arith)) in
+    subst (Turn s at k l) (sym p) (turn-at s at k l h room)
 
 -- no line is left
 pub all-taken : (s : List ℕ) (at : ℕ) (k : Kept) → length s ≤ at → keptBy k (linesOf (drop at s)) ≡ k

@@ -1,22 +1,24 @@
 -- The start line. Assumes nothing.
-use Prim.Native.Nat.{ℕ, zero, suc, _+_, _-_, _*_, _/_, _≤_, _<_, min}
-use mathlib.Core.Path.{_≡_, refl, sym, ap, _∙_}
+use Prim.Native.Nat.{ℕ, _+_, _/_, _≤_, _<_, min}
+use mathlib.Core.Path.{_≡_, refl, sym, ap, subst, _∙_}
 use mathlib.Core.Bool.{Bool, true, false, cond}
-use mathlib.Core.List.{List, [], _∷_, _++_, append-nil}
+use mathlib.Core.List.{List, [], _∷_, append-nil}
 use mathlib.Core.Option.{Option, none, some}
 use native.Mathlib.Omega.{arith}
 use native.Mathlib.Nat.{add-zero, zero-add}
 use borrow.Author.Tests.{eqb-true, leb-false, ne-eqb, eq-eqb}
 use lib.Dec.{eqb, leb}
-use lib.ListN.{length, getD, take, drop, replicate}
+use lib.ListN.{length, getD, take, replicate}
 use lib.Seq.{sets, take-nil}
 use Rattle.model.specs.declared.events.Stepped.{Stepped}
 use Rattle.model.specs.Tools.{every}
 use Rattle.model.specs.WellFormed.{sizesFine}
 use Rattle.model.specs.Fresh.{zeroState, startOf}
+use Rattle.model.specs.Runs.{answersOf, wordsOf, eventsTo}
 use Rattle.text.specs.declared.reading.Taken.{Taken}
 use Rattle.text.specs.Lines.{linesOf, firstLine, passed, passedBy}
-use Rattle.text.specs.Reading.{numbersOf, exactly, unread, packed, takenAt}
+use Rattle.text.specs.Reading.{numbersOf, exactly, packed, takenAt}
+use Rattle.text.specs.Chunks.{wordsIn}
 use Rattle.text.specs.Writing.{answerText, putAt, putCount}
 use Rattle.text.proofs.Lines.{lines-some, passed-nil}
 use Rattle.text.proofs.Answers.{answer-short, is-put}
@@ -24,11 +26,18 @@ use Rattle.text.proofs.Events.{next-any}
 use Rattle.trace.specs.declared.kept.Kept.{Kept}
 use Rattle.trace.specs.declared.kept.Advanced.{Advanced}
 use Rattle.trace.specs.Program.{unreadable, startLine, lineDoes, keptAfter, lineText, keptBy, printedBy}
-use Rattle.trace.specs.Chunks.{mostLines, linesTaken, advanced, outAfter}
+use Rattle.trace.specs.Chunks.{Lent, lent, mostLines, advanced, lentAfter}
 use Rattle.trace.specs.Parts.{running, startFields}
 
-pub is-running : (k : Kept) → k .started ≡ true → running (k .state) ≡ k
+is-running : (k : Kept) → k .started ≡ true → running (k .state) ≡ k
 is-running k e = λ i. record { started = sym e i; state = k .state }
+
+-- what a call does after it
+pub run-is : (k : Kept) (s : List ℕ) (l : Lent) → k .started ≡ true → (r : Advanced) (words marks answers out : List ℕ)
+    → (r ≡ advanced (running (k .state)) s l) × (lent words marks answers out ≡ lentAfter (running (k .state)) s l)
+    → (r ≡ advanced k s l) × (lent words marks answers out ≡ lentAfter k s l)
+run-is k s l e r words marks answers out =
+    subst (λ (j : Kept). (r ≡ advanced j s l) × (lent words marks answers out ≡ lentAfter j s l)) (is-running k e)
 
 -- ---- its numbers
 
@@ -80,25 +89,36 @@ nil-of (b ∷ s) h = absurd (omega arith)
 
 -- ---- what a call does before it
 
-module _ (k : Kept) (s out : List ℕ) (first : k .started ≡ false) where
-  abbrev Does : Advanced → List ℕ → Type 0
-  Does r out′ = (r ≡ advanced k s out) × (out′ ≡ outAfter k s out)
+-- the other lists play no part
+module _ (k : Kept) (s : List ℕ) (l : Lent) (first : k .started ≡ false) where
+  pub lists-aside : (r : Advanced) (out : List ℕ)
+      → (r ≡ advanced k s (lent [] [] [] (l .out))) × (out ≡ lentAfter k s (lent [] [] [] (l .out)) .out)
+      → (r ≡ advanced k s l) × (lent (l .words) (l .marks) (l .answers) out ≡ lentAfter k s l)
+  unfolding advanced lentAfter wordsIn answersOf wordsOf eventsTo
+  lists-aside r out p = let q = rw first at p in rw first (q .0, ap (lent (l .words) (l .marks) (l .answers)) (q .1))
 
-  most : (n : ℕ) → n ≡ min (length out / 33) 1 → mostLines k out ≡ n
+module _ (k : Kept) (s out : List ℕ) (first : k .started ≡ false) where
+  abbrev alone : Lent
+  alone = lent [] [] [] out
+
+  abbrev Does : Advanced → List ℕ → Type 0
+  Does r out′ = (r ≡ advanced k s alone) × (out′ ≡ lentAfter k s alone .out)
+
+  most : (n : ℕ) → n ≡ min (length out / 33) 1 → mostLines k alone ≡ n
   most n e = rw first (sym e)
 
   -- no line is taken
-  nothing : take (mostLines k out) (linesOf s) ≡ [] → passedBy (mostLines k out) s ≡ 0 → Does (record { kept = k; read = 0; written = 0 }) out
-  unfolding advanced outAfter keptBy printedBy
+  nothing : take (mostLines k alone) (linesOf s) ≡ [] → passedBy (mostLines k alone) s ≡ 0 → Does (record { kept = k; read = 0; written = 0 }) out
+  unfolding advanced lentAfter keptBy printedBy
   nothing e f = rw (e, f) (refl, refl)
 
   pub no-line : length s ≡ 0 → Does (record { kept = k; read = 0; written = 0 }) out
   unfolding linesOf
-  no-line h = let e = nil-of s h in nothing (rw (e, take-nil (mostLines k out))) (rw (e, passed-nil (mostLines k out)))
+  no-line h = let e = nil-of s h in nothing (rw (e, take-nil (mostLines k alone))) (rw (e, passed-nil (mostLines k alone)))
 
   pub no-room : length out < 33 → Does (record { kept = k; read = 0; written = 0 }) out
   unfolding passedBy
-  no-room h = let z : mostLines k out ≡ 0 = most 0 (omega arith) in nothing (rw z) (rw z)
+  no-room h = let z : mostLines k alone ≡ 0 = most 0 (omega arith) in nothing (rw z) (rw z)
 
   -- it is taken
   pub start-taken : 0 < length s → 33 ≤ length out → (t : Taken) → t ≡ takenAt s 0 → (r : Stepped) → r ≡ startFields (t .count) (t .words)
@@ -106,9 +126,9 @@ module _ (k : Kept) (s out : List ℕ) (first : k .started ≡ false) where
       → (w ≡ putCount out 0 (answerText (r .answer .number) (r .answer .word) (r .answer .slot)))
       × (out′ ≡ putAt out 0 (answerText (r .answer .number) (r .answer .word) (r .answer .slot)))
       → Does (record { kept = running (r .state); read = t .next; written = w }) out′
-  unfolding advanced outAfter keptBy printedBy keptAfter lineDoes lineText passedBy
+  unfolding advanced lentAfter keptBy printedBy keptAfter lineDoes lineText passedBy
   start-taken h g t e r f w out′ p =
-      let z : mostLines k out ≡ 1 = most 1 (omega arith) in
+      let z : mostLines k alone ≡ 1 = most 1 (omega arith) in
       let i = taken-start s t e in
       let l = lines-some s h in
       let q = is-put out 0 (answerText (r .answer .number) (r .answer .word) (r .answer .slot)) (let a = answer-short (r .answer .number) (r .answer .word) (r .answer .slot) in omega arith) in

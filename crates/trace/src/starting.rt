@@ -5,7 +5,8 @@ use model::events::Answer;
 use model::events::Stepped;
 ghost use mathlib.Core.Bool.{true, false};
 ghost use mathlib.Core.Path.{_≡_};
-ghost use Rattle.trace.specs.Chunks.{advanced, outAfter};
+ghost use mathlib.Core.List.{[]};
+ghost use Rattle.trace.specs.Chunks.{lent, advanced, lentAfter};
 ghost use Rattle.trace.specs.Program.{nothingKept};
 ghost use Rattle.trace.specs.Parts.{startFields};
 
@@ -40,11 +41,11 @@ fn start_line(count: usize, words: [u32; 8]) -> Stepped
     }
 }
 
-// The first line of `s`, if there is one, and room for its answer.
+// The first line of `s`, if there is one, and room for its answer: the other lists play no part.
 pub(crate) fn begin(kept: Kept, s: &[u8], out: &mut [u8]) -> Advanced
     requires { ⌜ kept .started ≡ false ⌝ }
-    ensures { λ r. ⌜ r ≡ advanced kept (now (s .entry)) (now (out .entry)) ⌝ }
-    ensures { λ _. ⌜ now (out .exit) ≡ outAfter kept (now (s .entry)) (now (out .entry)) ⌝ }
+    ensures { λ r. ⌜ r ≡ advanced kept (now (s .entry)) (lent [] [] [] (now (out .entry))) ⌝ }
+    ensures { λ _. ⌜ now (out .exit) ≡ lentAfter kept (now (s .entry)) (lent [] [] [] (now (out .entry))) .out ⌝ }
 {
     if s.len() == 0 {
         return Advanced {

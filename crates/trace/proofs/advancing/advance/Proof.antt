@@ -1,8 +1,6 @@
-use mathlib.Core.Path.{_≡_, ap, _∙_}
 use denote.Ref.{now}
-use Rattle.trace.specs.declared.kept.Kept.{Kept}
-use Rattle.trace.specs.Chunks.{advanced, outAfter}
-use Rattle.trace.proofs.Starts.{is-running}
+use Rattle.trace.specs.Chunks.{lent}
+use Rattle.trace.proofs.Starts.{run-is, lists-aside}
 use borrow.Author.Needs.{needs}
 use Rattle.trace.proofs.advancing.advance.Statement.{statement}
 use Rattle.trace.proofs.advancing.advance.Tie as tie
@@ -13,22 +11,32 @@ run-requires c κs = search needs
 same-length : tie.Need-same-length
 same-length c = search needs
 
+same-length-2 : tie.Need-same-length-2
+same-length-2 c = search needs
+
+same-length-3 : tie.Need-same-length-3
+same-length-3 c = search needs
+
+same-length-4 : tie.Need-same-length-4
+same-length-4 c = search needs
+
 returns : tie.Need-returns
 returns c =
-    let a = c .before .before .before .before .before .before .before .before .args in
-    let e = is-running (a .kept) (c .before .before .before .before .before .if1 .taken) in
-    let r = c .before .before .run .ensures in
-    (r .0 ∙ ap (λ (k : Kept). advanced k (a .s .now) (now (a .out))) e, r .1 ∙ ap (λ (k : Kept). outAfter k (a .s .now) (now (a .out))) e)
+    let a = c .before .before .before .before .before .before .before .before .before .before .before .before .before .before .before .before .before .before .before .before .args in
+    run-is (a .kept) (a .s .now) (lent (now (a .words)) (now (a .marks)) (now (a .answers)) (now (a .out))) (c .before .before .before .before .before .before .before .before .before .before .before .before .before .before .if1 .taken) _ _ _ _ _ (c .before .before .before .before .before .before .before .before .run .ensures)
 
 begin-requires : tie.Need-begin-requires
 begin-requires c κs = search needs
 
-same-length-2 : tie.Need-same-length-2
-same-length-2 c = search needs
+same-length-5 : tie.Need-same-length-5
+same-length-5 c = search needs
 
 returns-2 : tie.Need-returns-2
-returns-2 c = search needs
+returns-2 c =
+    let a = c .before .before .before .before .before .before .before .before .before .before .args in
+    lists-aside (a .kept) (a .s .now) (lent (now (a .words)) (now (a .marks)) (now (a .answers)) (now (a .out))) (c .before .before .before .before .if1 .left) _ _ (c .before .before .begin .ensures)
 
 pub advance-spec : {M : Type 1} → statement M
 advance-spec =
-    tie.close (tie.spec run-requires same-length returns begin-requires same-length-2 returns-2)
+    tie.close
+    (tie.spec run-requires same-length same-length-2 same-length-3 same-length-4 returns begin-requires same-length-5 returns-2)
