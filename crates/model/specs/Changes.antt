@@ -26,13 +26,21 @@ arrived x k a = record { cell = x; reply = k; answer = a }
 abbrev pub discarded : Cell → SlotChange
 discarded x = arrived x Free (answer 0 0 64)
 
+-- an ownership acknowledgment from slot i
+unfoldable pub ownershipAcked : ℕ → Cell → SlotChange
+ownershipAcked i x = pick (x .backup) (arrived (unbacked x) DeletionAck (answer 0 1 i)) (discarded x)
+
+-- a backup deletion acknowledgment
+unfoldable pub deletionAcked : Cell → SlotChange
+deletionAcked x = pick (x .blocked) (arrived (unblocked x) Free (answer 0 1 64)) (discarded x)
+
 -- a message of the line's serial is delivered from slot i, by its kind
 unfoldable pub arriveBy : ℕ → ℕ → Cell → Message → MessageKind → SlotChange
 arriveBy n i x m Free = discarded x
 arriveBy n i x m Tokens =
     arrived (settled n (received m x)) (pick (m .owner) OwnershipAck Free) (answer 0 1 (pick (m .owner) i 64))
-arriveBy n i x m OwnershipAck = pick (x .backup) (arrived (unbacked x) DeletionAck (answer 0 1 i)) (discarded x)
-arriveBy n i x m DeletionAck = pick (x .blocked) (arrived (unblocked x) Free (answer 0 1 64)) (discarded x)
+arriveBy n i x m OwnershipAck = ownershipAcked i x
+arriveBy n i x m DeletionAck = deletionAcked x
 
 -- a drop, or a message whose serial is not the line's serial q
 unfoldable pub lost : ℕ → ℕ → Message → Bool

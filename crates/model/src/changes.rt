@@ -5,7 +5,7 @@ ghost use Rattle.model.specs.Types.{Tokens as TokenMessage};
 ghost use Rattle.model.specs.Cells.{fill, received};
 ghost use Rattle.model.specs.Tools.{when};
 ghost use Rattle.model.specs.Effects.{answer as answerOf, ack as ackOf, sentMessage, sentCell};
-ghost use Rattle.model.specs.Changes.{wantedBy, touchedCell, discarded as discardedOf, arriveBy, arriveOf, lost as lostOf, replyOf};
+ghost use Rattle.model.specs.Changes.{wantedBy, touchedCell, discarded as discardedOf, ownershipAcked, deletionAcked, arriveBy, arriveOf, lost as lostOf, replyOf};
 ghost use Rattle.model.specs.Needs.{Sendable};
 use crate::cells::Cell;
 use crate::cells::Want;
@@ -137,6 +137,36 @@ fn arrive_tokens(n: Count, i: u32, x: Cell, m: Message) -> SlotChange
     }
 }
 
+// An ownership acknowledgment ends the backup, and is answered.
+fn arrive_ownership_ack(i: u32, x: Cell) -> SlotChange
+    ensures { λ r. ⌜ r ≡ ownershipAcked i x ⌝ }
+{
+    if x.backup {
+        SlotChange {
+            cell: x.drop_backup(),
+            reply: MessageKind::DeletionAck,
+            answer: answer(0, 1, i),
+        }
+    } else {
+        discarded(x)
+    }
+}
+
+// A backup deletion acknowledgment ends the block.
+fn arrive_deletion_ack(x: Cell) -> SlotChange
+    ensures { λ r. ⌜ r ≡ deletionAcked x ⌝ }
+{
+    if x.blocked {
+        SlotChange {
+            cell: x.unblock(),
+            reply: MessageKind::Free,
+            answer: answer(0, 1, 64),
+        }
+    } else {
+        discarded(x)
+    }
+}
+
 // A message of the line's serial is delivered from slot i, by its kind.
 fn arrive(n: Count, i: u32, x: Cell, m: Message) -> SlotChange
     requires { ⌜ (m .kind ≡ TokenMessage → x .tokens .0 + m .tokens .0 < 256) ⌝ }
@@ -146,28 +176,8 @@ fn arrive(n: Count, i: u32, x: Cell, m: Message) -> SlotChange
     match kind {
         MessageKind::Free => discarded(x),
         MessageKind::Tokens => arrive_tokens(n, i, x, m),
-        MessageKind::OwnershipAck => {
-            if x.backup {
-                SlotChange {
-                    cell: x.drop_backup(),
-                    reply: MessageKind::DeletionAck,
-                    answer: answer(0, 1, i),
-                }
-            } else {
-                discarded(x)
-            }
-        }
-        MessageKind::DeletionAck => {
-            if x.blocked {
-                SlotChange {
-                    cell: x.unblock(),
-                    reply: MessageKind::Free,
-                    answer: answer(0, 1, 64),
-                }
-            } else {
-                discarded(x)
-            }
-        }
+        MessageKind::OwnershipAck => arrive_ownership_ack(i, x),
+        MessageKind::DeletionAck => arrive_deletion_ack(x),
     }
 }
 

@@ -52,10 +52,9 @@ fn lowest(nine: [Cell; 9], mark: Mark) -> usize
 fn copyless(nine: [Cell; 9]) -> bool
     ensures { λ r. ⌜ r ≡ copylessOf (nth nine) ⌝ }
 {
-    let owner = lowest(nine, Mark::Owner);
-    let valid = lowest(nine, Mark::Valid);
-    let backup = lowest(nine, Mark::Backup);
-    (owner == 9) & (valid == 9) & (backup == 9)
+    (lowest(nine, Mark::Owner) == 9)
+        & (lowest(nine, Mark::Valid) == 9)
+        & (lowest(nine, Mark::Backup) == 9)
 }
 
 // The word that a recreation takes.

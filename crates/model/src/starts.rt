@@ -11,6 +11,7 @@ use crate::events::Answer;
 use crate::events::Stepped;
 use crate::messages::Message;
 use crate::messages::MessageKind;
+use crate::moves::either;
 use crate::numbers::Count;
 use crate::numbers::Serial;
 use crate::states::Sizes;
@@ -99,25 +100,17 @@ fn fresh(caches: u8, lines: u8, n: u8) -> State
 pub fn start(caches: u32, lines: u32, tokens: u32) -> Stepped
     ensures { λ r. ⌜ r ≡ startOf caches lines tokens ⌝ }
 {
-    if sizes_fine(caches, lines, tokens) {
-        let state = fresh(caches as u8, lines as u8, tokens as u8);
-        Stepped {
-            state,
-            answer: Answer {
-                number: 0,
-                word: 0,
-                slot: 64,
-            },
-        }
-    } else {
-        let state = fresh(0, 0, 0);
-        Stepped {
-            state,
-            answer: Answer {
-                number: 19,
-                word: 0,
-                slot: 64,
-            },
-        }
+    let fine = sizes_fine(caches, lines, tokens);
+    let c = either(fine, caches, 0);
+    let l = either(fine, lines, 0);
+    let n = either(fine, tokens, 0);
+    let state = fresh(c as u8, l as u8, n as u8);
+    Stepped {
+        state,
+        answer: Answer {
+            number: either(fine, 0, 19),
+            word: 0,
+            slot: 64,
+        },
     }
 }

@@ -18,7 +18,7 @@ use Rattle.model.specs.WellFormed.{wellFormed}
 use Rattle.model.specs.Refusals.{refusal, reading, slotted, dropping, cellOf, freeAt}
 use Rattle.model.specs.Effects.{answer, answered, ack, target, landed, emptied, arrive, deliverOf, readOf, writeOf, wantOf, effect, stepOf}
 use Rattle.model.specs.Rows.{cellRows, cellRefusal}
-use Rattle.model.specs.Changes.{wantedBy, touchedCell, discarded, arriveBy, arriveOf, lost, replyOf}
+use Rattle.model.specs.Changes.{wantedBy, touchedCell, discarded, ownershipAcked, deletionAcked, arriveBy, arriveOf, lost, replyOf}
 use Rattle.model.specs.Places.{Within, Placed}
 use Rattle.model.specs.Tags.{tagOf, slotTag, Tagged, slotRefusal}
 use Rattle.model.proofs.Laws.Bools.{clash, split, by-pick, or-left, or-right}
@@ -86,7 +86,7 @@ discard-is s i q m = ap (λ s. emptied s i) (sym (same-cell s (m .line) (m .dest
 -- a message of the line's serial that is delivered, by its kind
 arrive-is : (s : State) (i q : ℕ) (m : Message) (k : MessageKind)
     → arrive s i m q k ≡ left s i q m (arriveBy (s .sizes .total .0) i (target s m) m k)
-unfolding arrive arriveBy replyOf
+unfolding arrive arriveBy ownershipAcked deletionAcked replyOf
 arrive-is s i q m Free = discard-is s i q m
 arrive-is s i q m Tokens = split (m .owner) (λ t. rw t) (λ f. rw f)
 arrive-is s i q m OwnershipAck = pick-along (left s i q m) (target s m .backup) refl (discard-is s i q m)
