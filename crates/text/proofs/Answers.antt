@@ -1,15 +1,15 @@
 -- The text of an answer, and of a run of them. Assumes nothing.
-use Prim.Native.Nat.{ℕ, zero, suc, _+_, _-_, _*_, _/_, _%_, _^_, _≤_, _<_}
-use mathlib.Core.Path.{_≡_, refl, sym, ap, subst, _∙_}
-use mathlib.Core.Bool.{Bool, true, false, cond, _&&_}
+use Prim.Native.Nat.{ℕ, zero, suc, _+_, _/_, _%_, _^_, _≤_, _<_}
+use mathlib.Core.Path.{_≡_, refl, sym, ap, _∙_}
+use mathlib.Core.Bool.{Bool, true, false, cond}
 use mathlib.Core.List.{List, [], _∷_, _++_}
 use native.Mathlib.Omega.{arith}
 use native.Mathlib.Nat.{add-zero, zero-add}
 use native.Mathlib.Numerals.{add-one}
-use borrow.Author.Tests.{eq-eqb, ne-eqb, le-leb, lt-leb}
-use lib.Dec.{ltb, leb, eqb}
-use lib.ListN.{length, getD, drop, length-append, drop-of-length-le}
-use lib.Seq.{sets, sets-eq, length-sets, drop-cons, drop-drop, getD-drop}
+use borrow.Author.Tests.{eq-eqb, ne-eqb, le-leb, lt-leb, lt-ltb, le-ltb}
+use lib.Dec.{ltb}
+use lib.ListN.{length, getD, set, drop, length-append, drop-of-length-le}
+use lib.Seq.{sets, sets-eq, drop-cons, drop-drop, getD-drop}
 use Rattle.text.specs.Writing.{decimalTo, decimal, ended, answerText, putAt, putCount}
 use Rattle.text.specs.Chunks.{answersText, printed, printedCount}
 use Rattle.text.specs.Parts.{digits}
@@ -27,15 +27,13 @@ unfolding decimalTo
 shorter zero n = omega arith
 shorter (suc k) n = one-more (ltb n 10) _ _ (decimalTo k (n / 10)) k (shorter k (n / 10))
 
-length-ended : (n b : ℕ) → length (ended n b) ≡ length (decimal n) + 1
+pub length-ended : (n b : ℕ) → length (ended n b) ≡ length (decimal n) + 1
 unfolding ended
 length-ended n b = rw length-append
 
 pub length-answer : (a b c : ℕ) → length (answerText a b c) ≡ length (decimal a) + length (decimal b) + length (decimal c) + 3
 unfolding answerText
-length-answer a b c =
-    rw (length-append (ended a 9) (ended b 9 ++ ended c 10), length-append (ended b 9) (ended c 10), length-ended a 9, length-ended b 9, length-ended c 10)
-    (omega arith)
+length-answer a b c = simp (length-append, length-ended) (omega arith)
 
 pub answer-short : (a b c : ℕ) → length (answerText a b c) ≤ 33
 unfolding decimal
@@ -46,58 +44,66 @@ answer-short a b c =
     let l = length-answer a b c in
     omega arith
 
--- the digits that are put
-put-digits : (n i : ℕ) → n < 2 ^ 32 → i ≡ length (decimal n) → digits i n ≡ decimal n
-put-digits n i h e =
+pub fits : (d : List ℕ) (at a b c : ℕ) → at + 33 ≤ length d → at + length (answerText a b c) ≤ length d
+fits d at a b c h = let s = answer-short a b c in omega arith
+
+-- ---- bytes are put
+
+-- the bytes t stand from place `at` on, up to place r
+abbrev Puts : List ℕ → ℕ → List ℕ → ℕ → List ℕ → Type 0
+Puts d at t r d′ = (r ≡ at + length t) × (d′ ≡ sets d at t)
+
+-- bytes, and others after them
+puts-append : (x y d d₁ d₂ : List ℕ) (at p q : ℕ) → Puts d at x p d₁ → Puts d₁ p y q d₂ → Puts d at (x ++ y) q d₂
+puts-append x y d d₁ d₂ at p q g h =
+    (let l = length-append x y in let u = g .0 in let v = h .0 in omega arith, h .1 ∙ rw (g .1, g .0) (sym (sets-append x y d at)))
+
+-- three numbers put an answer
+pub puts-answer : (d d₁ d₂ d₃ : List ℕ) (at p q r a b c : ℕ) → Puts d at (ended a 9) p d₁ → Puts d₁ p (ended b 9) q d₂ → Puts d₂ q (ended c 10) r d₃
+    → Puts d at (answerText a b c) r d₃
+unfolding answerText
+puts-answer d d₁ d₂ d₃ at p q r a b c f g h =
+    puts-append (ended a 9) (ended b 9 ++ ended c 10) d d₁ d₃ at p r f (puts-append (ended b 9) (ended c 10) d₁ d₂ d₃ p q r g h)
+
+-- a number of one digit, and one of two
+pub one-digit : (n : ℕ) → n < 10 → decimal n ≡ (48 + n) ∷ []
+unfolding decimal decimalTo
+one-digit n h = rw (lt-ltb n 10 h)
+
+pub two-digits : (n : ℕ) → 10 ≤ n → n < 100 → decimal n ≡ (48 + n / 10) ∷ (48 + n % 10) ∷ []
+unfolding decimal decimalTo
+two-digits n h k = rw (le-ltb n 10 h, lt-ltb (n / 10) 10 (omega arith))
+
+pub puts-one : (d : List ℕ) (at n b : ℕ) → n < 10 → Puts d at (ended n b) (at + 2) (set (set d at (48 + n)) (at + 1) b)
+unfolding ended
+puts-one d at n b h = rw (one-digit n h, add-one at) (refl, refl)
+
+pub puts-two : (d : List ℕ) (at n b : ℕ) → 10 ≤ n → n < 100
+    → Puts d at (ended n b) (at + 3) (set (set (set d at (48 + n / 10)) (at + 1) (48 + n % 10)) (at + 2) b)
+unfolding ended
+puts-two d at n b h k =
+    let e : at + 2 ≡ suc (suc at) = omega arith in
+    rw (two-digits n h k, e, add-one at) (refl, refl)
+
+-- the digits of a number of this width
+pub puts-digits : (d d′ : List ℕ) (at n b i : ℕ) → n < 2 ^ 32 → i ≡ length (decimal n) → d′ ≡ sets d at (digits i n ++ (b ∷ []))
+    → Puts d at (ended n b) (at + i + 1) d′
+unfolding ended
+puts-digits d d′ at n b i h e g =
     let s = spans n h in
-    let d = decimal-is (s .0) n (s .1) (s .2) in
-    rw (e, d, length-digits (suc (s .0)) n)
+    let w = decimal-is (s .0) n (s .1) (s .2) in
+    let l = length-ended n b in
+    (omega arith, g ∙ rw (e, w, length-digits (suc (s .0)) n))
 
-length-run : (k n b : ℕ) → length (digits k n ++ (b ∷ [])) ≡ k + 1
-length-run k n b = rw (length-append, length-digits k n)
+-- ---- where an answer is put
 
--- three runs put an answer
-pub three : (d₀ d₁ d₂ d₃ : List ℕ) (at a b c i j k : ℕ) → a < 2 ^ 32 → b < 2 ^ 32 → c < 2 ^ 32
-    → i ≡ length (decimal a) → j ≡ length (decimal b) → k ≡ length (decimal c)
-    → d₁ ≡ sets d₀ at (digits i a ++ (9 ∷ []))
-    → d₂ ≡ sets d₁ (at + i + 1) (digits j b ++ (9 ∷ []))
-    → d₃ ≡ sets d₂ (at + i + 1 + j + 1) (digits k c ++ (10 ∷ []))
-    → d₃ ≡ sets d₀ at (answerText a b c)
-unfolding answerText ended
-three d₀ d₁ d₂ d₃ at a b c i j k wa wb wc p q r f g h =
-    let x : List ℕ = digits i a ++ (9 ∷ []) in
-    let y : List ℕ = digits j b ++ (9 ∷ []) in
-    let z : List ℕ = digits k c ++ (10 ∷ []) in
-    let u : at + length x ≡ at + i + 1 = let n = length-run i a 9 in omega arith in
-    let v : at + i + 1 + length y ≡ at + i + 1 + j + 1 = let n = length-run j b 9 in omega arith in
-    rw (← put-digits a i wa p, ← put-digits b j wb q, ← put-digits c k wc r)
-    (h ∙ sym (sets-append x (y ++ z) d₀ at ∙ rw (u, ← f, sets-append y z d₁ (at + i + 1), v, ← g)))
-
--- ---- where it is put
-
-abbrev Put : List ℕ → ℕ → List ℕ → ℕ → List ℕ → Type 0
-Put d at t k d′ = (k ≡ putCount d at t) × (d′ ≡ putAt d at t)
-
-pub no-room : (d : List ℕ) (at : ℕ) (t : List ℕ) → length d < at + length t → Put d at t 0 d
+pub no-room : (d : List ℕ) (at : ℕ) (t : List ℕ) → length d < at + length t → (0 ≡ putCount d at t) × (d ≡ putAt d at t)
 unfolding putCount putAt
 no-room d at t h = rw (lt-leb _ _ h) (refl, refl)
 
 pub is-put : (d : List ℕ) (at : ℕ) (t : List ℕ) → at + length t ≤ length d → (length t ≡ putCount d at t) × (sets d at t ≡ putAt d at t)
 unfolding putCount putAt
 is-put d at t h = rw (le-leb _ _ h) (refl, sets-eq t d at h)
-
-put-cond : (t : Bool) (n : ℕ) → cond t n 0 ≤ n
-put-cond true n = omega arith
-put-cond false n = omega arith
-
--- what is put is short
-pub put-short : (d : List ℕ) (at x y z k : ℕ) → k ≡ putCount d at (answerText x y z) → k ≤ 33
-unfolding putCount
-put-short d at x y z k e =
-    let t : List ℕ = answerText x y z in
-    let c = put-cond (leb (at + length t) (length d)) (length t) in
-    let s = answer-short x y z in
-    omega arith
 
 -- ---- a run of answers
 
@@ -123,28 +129,14 @@ pub text-other : (ms ws : List ℕ) (j a : ℕ) → j < length ms → (getD ms j
 unfolding answersText
 text-other ms ws j a h e = rw (drop-cons ms j 0 h, ne-eqb _ _ e, add-one j)
 
--- what a turn of the run keeps
-pub record Turn (d₀ ms ws : List ℕ) (j a at : ℕ) (d : List ℕ) : Type 0 where
-  pub same : length d ≡ length d₀
-  pub going : Printing d₀ ms ws j a at d
-
 -- an answer is put
-pub printing-more : (d₀ ms ws : List ℕ) (j a at : ℕ) (d : List ℕ) → Printing d₀ ms ws j a at d → length d ≡ length d₀ → at + 33 ≤ length d
-    → (x y z : ℕ) (j′ a′ k : ℕ) (d′ : List ℕ) → leftText ms ws j a ≡ answerText x y z ++ leftText ms ws j′ a′
-    → Put d at (answerText x y z) k d′ → Turn d₀ ms ws j′ a′ (at + k) d′
-printing-more d₀ ms ws j a at d g m h x y z j′ a′ k d′ e p =
-    let t : List ℕ = answerText x y z in
-    let n = answer-short x y z in
-    let w = is-put d at t (omega arith) in
-    let r : k ≡ length t = p .0 ∙ sym (w .0) in
-    let s : d′ ≡ sets d at t = p .1 ∙ sym (w .1) in
+pub printing-more : (d₀ ms ws : List ℕ) (j a at : ℕ) (d : List ℕ) → Printing d₀ ms ws j a at d
+    → (t : List ℕ) (j′ a′ at′ : ℕ) (d′ : List ℕ) → leftText ms ws j a ≡ t ++ leftText ms ws j′ a′
+    → Puts d at t at′ d′ → Printing d₀ ms ws j′ a′ at′ d′
+printing-more d₀ ms ws j a at d g t j′ a′ at′ d′ e p =
     record {
-      same = ap length s ∙ length-sets d at t ∙ m;
-      going =
-          record {
-            total = let u = ap length e ∙ length-append t (leftText ms ws j′ a′) in let v = g .total in omega arith;
-            bytes = rw (s, r) (sym (sets-append t (leftText ms ws j′ a′) d at) ∙ ap (sets d at) (sym e) ∙ g .bytes);
-          };
+      total = let u = ap length e ∙ length-append t (leftText ms ws j′ a′) in let v = g .total in let w = p .0 in omega arith;
+      bytes = rw (p .1, p .0) (sym (sets-append t (leftText ms ws j′ a′) d at) ∙ ap (sets d at) (sym e) ∙ g .bytes);
     }
 
 abbrev Printed : List ℕ → List ℕ → List ℕ → ℕ → List ℕ → Type 0

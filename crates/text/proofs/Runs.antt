@@ -1,24 +1,23 @@
 -- Digits from a place on, and the number of the field there. Assumes nothing.
-use Prim.Native.Nat.{ℕ, zero, suc, _+_, _-_, _*_, _≤_, _<_}
+use Prim.Native.Nat.{ℕ, _+_, _-_, _*_, _≤_, _<_}
 use mathlib.Core.Path.{_≡_, refl, sym, ap, subst, _∙_}
 use mathlib.Core.Bool.{Bool, true, false}
 use mathlib.Core.List.{List, [], _∷_, _++_, append-assoc}
-use mathlib.Core.Option.{Option, none, some}
+use mathlib.Core.Option.{none, some}
 use native.Mathlib.Omega.{arith}
 use native.Mathlib.Nat.{add-zero, zero-add}
 use native.Mathlib.Numerals.{add-one}
 use borrow.Author.Tests.{eqb-true, eqb-false, leb-true, leb-false}
 use lib.Dec.{eqb, leb}
-use lib.ListN.{length, getD, drop, length-append, length-drop, List·getD-append}
+use lib.ListN.{length, getD, drop, length-append, List·getD-append}
 use lib.Seq.{drop-cons, getD-drop}
 use Rattle.text.specs.declared.numbers.Run.{Run}
-use Rattle.text.specs.declared.numbers.Number.{Number}
 use Rattle.text.specs.Lines.{firstLine, passed}
-use Rattle.text.specs.Reading.{fieldsOf, isDigit, allDigits, unpadded, spelled, valueOf, both, valuesOf}
+use Rattle.text.specs.Reading.{fieldsOf, isDigit, allDigits, unpadded, spelled, valueOf, valuesOf}
 use Rattle.text.specs.Parts.{Digits, Stops, Runs, numbers, Found}
 use Rattle.text.proofs.Bools.{not-both, digit-in}
 use Rattle.text.proofs.Values.{spelled-snoc, all-snoc, unpadded-lead, unpadded-one, value-some, no-digit, too-large, padded}
-use Rattle.text.proofs.Fields.{numbers-none, numbers-last, numbers-tab, numbers-other}
+use Rattle.text.proofs.Fields.{numbers-none, numbers-other}
 use Rattle.text.proofs.Lines.{first-here, first-end, first-none, free, free-digits, first-free, passed-free}
 
 -- ---- digits
@@ -48,13 +47,6 @@ module _ (s : List ℕ) (from end v : ℕ) (d : Digits s from end v) where
 
   pub passed-here : from + passed (drop from s) ≡ end + passed (drop end s)
   passed-here = let p = ap passed (d .here) ∙ passed-free (d .text) (drop end s) no-feed in let l = d .long in omega arith
-
-  pub within : from < end → end ≤ length s
-  within h =
-      let a = ap length (d .here) ∙ length-append (d .text) (drop end s) in
-      let b = length-drop from s in
-      let l = d .long in
-      omega arith
 
   -- the first of them
   lead : from < end → getD (d .text) 0 0 ≡ getD s from 0

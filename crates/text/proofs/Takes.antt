@@ -1,26 +1,26 @@
 -- Reading a line field by field. Assumes nothing.
-use Prim.Native.Nat.{ℕ, zero, suc, _+_, _-_, _*_, _≤_, _<_}
-use mathlib.Core.Path.{_≡_, refl, sym, ap, subst, _∙_}
-use mathlib.Core.Bool.{Bool, true, false, cond, _&&_}
+use Prim.Native.Nat.{ℕ, suc, _+_, _≤_, _<_}
+use mathlib.Core.Path.{_≡_, refl, sym, ap, _∙_}
+use mathlib.Core.Bool.{Bool, true, false, cond}
 use mathlib.Core.List.{List, [], _∷_, _++_}
 use mathlib.Core.Option.{Option, none, some}
 use native.Mathlib.Omega.{arith}
 use native.Mathlib.Nat.{add-zero, zero-add}
 use native.Mathlib.Numerals.{add-one}
-use borrow.Author.Tests.{eqb-true, eqb-false, leb-true, leb-false, le-leb, lt-leb, eq-eqb, ne-eqb}
+use borrow.Author.Tests.{eqb-true, eqb-false, leb-true, leb-false, le-leb, lt-leb, ne-eqb}
 use lib.Dec.{eqb, leb}
 use lib.ListN.{length, getD, drop, set, replicate}
 use lib.Seq.{sets}
 use Rattle.text.specs.declared.numbers.Number.{Number}
 use Rattle.text.specs.declared.reading.Taken.{Taken}
 use Rattle.text.specs.Lines.{firstLine, passed}
-use Rattle.text.specs.Reading.{fieldsOf, isDigit, allDigits, spelled, valueOf, both, valuesOf, numbersOf, unread, packed, takenAt}
-use Rattle.text.specs.Parts.{Digits, Stops, numbers, Found, finished}
-use Rattle.text.proofs.Bools.{and-false, not-both}
+use Rattle.text.specs.Reading.{isDigit, valueOf, both, numbersOf, unread, packed, takenAt}
+use Rattle.text.specs.Parts.{numbers, Found, Short, finished}
+use Rattle.text.proofs.Bools.{not-both}
 use Rattle.text.proofs.Values.{no-digit, too-large, spelled-snoc}
 use Rattle.text.proofs.Fields.{numbers-last, numbers-tab, numbers-other}
-use Rattle.text.proofs.Lines.{first-here, first-end, first-none, passed-more, passed-end, passed-none}
-use Rattle.text.proofs.Runs.{line-here, passed-here}
+use Rattle.text.proofs.Lines.{byte-in, tab-in, first-here, first-end, first-none, passed-more, passed-end, passed-none}
+use Rattle.text.proofs.Runs.{line-here, passed-here, found-one}
 use Rattle.text.proofs.Lengths.{short-line}
 
 -- what a reader that has count numbers in words hands back, where those of the rest are given
@@ -69,23 +69,17 @@ taken-is s from = sym (any-length (firstLine (drop from s)) (numbers (firstLine 
 -- ---- the end of a line
 
 module _ (s : List ℕ) (end count : ℕ) (words : List ℕ) where
-  pub ninth : 8 < count → unread (end + passed (drop end s)) ≡ finished s end count words
+  pub ends-none : length s ≤ end → record { count = count; words = words; next = end } ≡ finished s end count words
   unfolding finished
-  ninth h = rw (lt-leb count 8 h)
+  ends-none k = rw (first-none s end k, passed-none s end k, add-zero end)
 
-  pub ends-none : count ≤ 8 → length s ≤ end → record { count = count; words = words; next = end } ≡ finished s end count words
+  pub ends-here : end < length s → getD s end 0 ≡ 10 → record { count = count; words = words; next = end + 1 } ≡ finished s end count words
   unfolding finished
-  ends-none h k = rw (le-leb count 8 h, first-none s end k, passed-none s end k, add-zero end)
-
-  pub ends-here : count ≤ 8 → end < length s → getD s end 0 ≡ 10
-      → record { count = count; words = words; next = end + 1 } ≡ finished s end count words
-  unfolding finished
-  ends-here h k b = rw (le-leb count 8 h, first-end s end k b, passed-end s end k b)
+  ends-here k b = rw (first-end s end k b, passed-end s end k b)
 
   pub goes-on : end < length s → (getD s end 0 ≡ 10 → ⊥) → unread (end + passed (drop end s)) ≡ finished s end count words
   unfolding finished
-  goes-on k b =
-      rw (first-here s end k b, ne-eqb (suc (length (firstLine (drop (end + 1) s)))) 0 (λ z. omega arith), and-false (leb count 8))
+  goes-on k b = rw (first-here s end k b, ne-eqb (suc (length (firstLine (drop (end + 1) s)))) 0 (λ z. omega arith))
 
 -- ---- its numbers, one after the other
 
@@ -95,6 +89,16 @@ pub record Left (s : List ℕ) (from i count : ℕ) (words : List ℕ) : Type 0 
 
 pub left-start : (s : List ℕ) (from : ℕ) → Left s from from 0 (replicate 8 0)
 left-start s from = record { line = finish-start _ _ ∙ taken-is s from }
+
+-- a line has a field, so after eight there is no room for the numbers of what is left
+over : (count : ℕ) (words l : List ℕ) (o : Option (List ℕ)) (next : ℕ) → 8 ≤ count → numbers l ≡ o → unread next ≡ finish count words o next
+unfolding finish
+over count words l none next h e = refl
+over count words l (some ns) next h e = rw (lt-leb (count + length ns) 8 (let k = short-line l ns e in omega arith))
+
+pub left-over : (s : List ℕ) (from i count : ℕ) (words : List ℕ) → Left s from i count words → 8 ≤ count
+    → unread (i + passed (drop i s)) ≡ takenAt s from
+left-over s from i count words left h = over count words (firstLine (drop i s)) _ _ h refl ∙ left .line
 
 module _ (s : List ℕ) (from i count : ℕ) (words : List ℕ) (left : Left s from i count words) (r : Number) (f : Found s i r) where
   -- no number is there
@@ -112,9 +116,13 @@ module _ (s : List ℕ) (from i count : ℕ) (words : List ℕ) (left : Left s f
   gone : i + passed (drop i s) ≡ r .end + passed (drop (r .end) s)
   gone = passed-here s i (r .end) (r .value) (f .run)
 
+  -- a number is there
+  far : (r .end ≡ i → ⊥) → i < r .end
+  far n = let l = f .run .long in omega arith
+
   -- it is followed by a tab
-  pub left-tab : i < r .end → r .end < length s → getD s (r .end) 0 ≡ 9 → Left s from (r .end + 1) (count + 1) (set words count (r .value))
-  left-tab h k b =
+  tab-next : i < r .end → r .end < length s → getD s (r .end) 0 ≡ 9 → Left s from (r .end + 1) (count + 1) (set words count (r .value))
+  tab-next h k b =
       let n : getD s (r .end) 0 ≡ 10 → ⊥ = λ z. omega arith in
       let e : numbers (firstLine (drop i s)) ≡ both (some (r .value)) (numbers (firstLine (drop (r .end + 1) s))) =
       rw (line-at, first-here s (r .end) k n, b) (numbers-tab (f .run .text) (r .value) (f .run .all) (f .value h) _) in
@@ -126,19 +134,18 @@ module _ (s : List ℕ) (from i count : ℕ) (words : List ℕ) (left : Left s f
             ∙ left .line;
       }
 
+  pub left-tab : (r .end ≡ i → ⊥) → r .after ≡ 9 → (r .end < length s) × Left s from (r .end + 1) (count + 1) (set words count (r .value))
+  left-tab n e =
+      let t = tab-in s (r .end) (sym (f .after (far n)) ∙ e) in
+      (t .0, tab-next (far n) (t .0) (t .1))
+
   -- the line ends there
-  last : i < r .end → after ≡ [] → finished s (r .end) (count + 1) (set words count (r .value)) ≡ takenAt s from
+  last : i < r .end → count < 8 → after ≡ [] → finished s (r .end) (count + 1) (set words count (r .value)) ≡ takenAt s from
   unfolding finished finish
-  last h e =
+  last h m e =
       let n : numbers (firstLine (drop i s)) ≡ some (r .value ∷ []) =
       rw (line-at, e) (numbers-last (f .run .text) (r .value) (f .run .all) (f .value h)) in
-      rw (e, ← gone) (last-one (leb (count + 1) 8) refl ∙ ap (λ (o : Option (List ℕ)). finish count words o (i + passed (drop i s))) (sym n) ∙ left .line)
-    where
-      last-one : (t : Bool) → leb (count + 1) 8 ≡ t
-          → cond {A = Taken} (leb (count + 1) 8 && true) (record { count = count + 1; words = set words count (r .value); next = i + passed (drop i s) }) (unread (i + passed (drop i s)))
-          ≡ finish count words (some (r .value ∷ [])) (i + passed (drop i s))
-      last-one true z = rw z
-      last-one false z = rw z
+      rw (e, ← gone) (rw (n, le-leb (count + 1) 8 (omega arith)) at (left .line))
 
   -- a byte that no field goes on with
   wrong-byte : (b : ℕ) (t : Bool) → isDigit b ≡ t → (isDigit b ≡ true → 1000000000 ≤ r .value) → (g : List ℕ) → valueOf (f .run .text ++ (b ∷ g)) ≡ none
@@ -155,17 +162,25 @@ module _ (s : List ℕ) (from i count : ℕ) (words : List ℕ) (left : Left s f
   other h b u e n k w =
       let z : numbers (firstLine (drop i s)) ≡ none =
       rw (line-at, e) (numbers-other (f .run .text) u b (f .run .all) n (wrong-byte b (isDigit b) refl k)) in
-      rw (e, ne-eqb (suc (length u)) 0 (λ q. omega arith), ← gone, and-false (leb (count + 1) 8)) (rw z at (left .line))
+      rw (e, ne-eqb (suc (length u)) 0 (λ q. omega arith), ← gone) (rw z at (left .line))
 
-  ends : i < r .end → (t u : Bool) → leb (length s) (r .end) ≡ t → eqb (getD s (r .end) 0) 10 ≡ u → (r .end < length s → getD s (r .end) 0 ≡ 9 → ⊥)
+  ends : i < r .end → count < 8 → (t u : Bool) → leb (length s) (r .end) ≡ t → eqb (getD s (r .end) 0) 10 ≡ u → (r .end < length s → getD s (r .end) 0 ≡ 9 → ⊥)
       → finished s (r .end) (count + 1) (set words count (r .value)) ≡ takenAt s from
-  ends h true u e g n = last h (first-none s (r .end) (leb-true _ _ e))
-  ends h false true e g n = last h (first-end s (r .end) (leb-false _ _ e) (eqb-true _ _ g))
-  ends h false false e g n =
+  ends h m true u e g n = last h m (first-none s (r .end) (leb-true _ _ e))
+  ends h m false true e g n = last h m (first-end s (r .end) (leb-false _ _ e) (eqb-true _ _ g))
+  ends h m false false e g n =
       let k = leb-false (length s) (r .end) e in
       other h (getD s (r .end) 0) (firstLine (drop (r .end + 1) s)) (first-here s (r .end) k (eqb-false _ _ g)) (n k) (f .stop h k) _
 
   -- no tab follows
-  pub left-end : i < r .end → (r .end < length s → getD s (r .end) 0 ≡ 9 → ⊥)
-      → finished s (r .end) (count + 1) (set words count (r .value)) ≡ takenAt s from
-  left-end h n = ends h _ _ refl refl n
+  pub left-end : count < 8 → (r .end ≡ i → ⊥) → (r .after ≡ 9 → ⊥) → finished s (r .end) (count + 1) (set words count (r .value)) ≡ takenAt s from
+  left-end m n e = ends (far n) m _ _ refl refl (λ h z. e (f .after (far n) ∙ sym (byte-in s (r .end) h) ∙ z))
+
+-- a digit and a tab
+pub left-short : (s : List ℕ) (from i count : ℕ) (words : List ℕ) → Left s from i count words → (v : ℕ) → Short s i v
+    → Left s from (i + 2) (count + 1) (set words count v)
+left-short s from i count words left v h =
+    let e : i + 1 + 1 ≡ i + 2 = omega arith in
+    let k = h .within in
+    let f = found-one s i (omega arith) (h .digit) 9 (sym (h .tab) ∙ byte-in s (i + 1) k) (λ m. rw (h .tab)) in
+    rw (e, h .spell) at (left-tab s from i count words left _ f (λ z. omega arith) refl .1)

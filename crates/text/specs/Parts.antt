@@ -1,10 +1,10 @@
 -- What the private functions state. Assumes nothing.
-use Prim.Native.Nat.{ℕ, zero, suc, _+_, _/_, _%_, _<_, _≤_}
+use Prim.Native.Nat.{ℕ, zero, suc, _+_, _-_, _/_, _%_, _<_, _≤_}
 use mathlib.Core.Path.{_≡_}
-use mathlib.Core.Bool.{Bool, true, cond, _&&_}
+use mathlib.Core.Bool.{Bool, true, cond}
 use mathlib.Core.List.{List, [], _∷_, _++_}
 use mathlib.Core.Option.{Option, none, some}
-use lib.Dec.{leb, eqb}
+use lib.Dec.{eqb}
 use lib.ListN.{length, getD, drop}
 use Rattle.text.specs.declared.numbers.Run.{Run}
 use Rattle.text.specs.declared.numbers.Number.{Number}
@@ -49,6 +49,13 @@ pub record TwoDigits (s : List ℕ) (from : ℕ) : Type 0 where
   pub first : isDigit (getD s from 0) ≡ true
   pub second : isDigit (getD s (from + 1) 0) ≡ true
 
+-- a digit and a tab stand at a place, and the digit spells v
+pub record Short (s : List ℕ) (from v : ℕ) : Type 0 where
+  pub within : from + 1 < length s
+  pub digit : isDigit (getD s from 0) ≡ true
+  pub spell : getD s from 0 - 48 ≡ v
+  pub tab : getD s (from + 1) 0 ≡ 9
+
 -- a line ends here
 abbrev pub atEnd : List ℕ → Bool
 atEnd t = eqb (length (firstLine t)) 0
@@ -56,7 +63,7 @@ atEnd t = eqb (length (firstLine t)) 0
 -- the line whose last number ends at a place
 unfoldable pub finished : List ℕ → ℕ → ℕ → List ℕ → Taken
 finished s end count words =
-    cond (leb count 8 && atEnd (drop end s)) (record { count = count; words = words; next = end + passed (drop end s) })
+    cond (atEnd (drop end s)) (record { count = count; words = words; next = end + passed (drop end s) })
     (unread (end + passed (drop end s)))
 
 -- the last k decimal digits of n

@@ -1,6 +1,6 @@
 // Many lines at once: events are read into words, answers are written for lines.
 use crate::reading::take;
-use crate::writing::write;
+use crate::writing::place;
 ghost use Prim.Native.Nat.{_+_, _≤_, min};
 ghost use mathlib.Core.Path.{_≡_};
 ghost use lib.ListN.{length};
@@ -89,14 +89,12 @@ pub fn print(dst: &mut [u8], marks: &[u8], answers: &[u32]) -> usize
     let mut at: usize = 0;
     while j < n {
         if marks[j] == 1 {
-            let k = write(dst, at, answers[a], answers[a + 1], answers[a + 2]);
-            at += k;
+            at = place(dst, at, answers[a], answers[a + 1], answers[a + 2]);
             a += 3;
             j += 1;
             continue;
         }
-        let k = write(dst, at, 22, 0, 64);
-        at += k;
+        at = place(dst, at, 22, 0, 64);
         j += 1;
     }
     at

@@ -1,8 +1,9 @@
 // One number of a line.
 ghost use Prim.Native.Nat.{_<_, _≤_};
 ghost use mathlib.Core.Path.{_≡_};
+ghost use lib.ListN.{length};
 ghost use Rattle.text.specs.Reading.{isDigit};
-ghost use Rattle.text.specs.Parts.{Runs, Found, TwoDigits};
+ghost use Rattle.text.specs.Parts.{Runs, Found, TwoDigits, Short};
 
 // Digits: what they spell, the place past them, and the byte there; at the end of input a line feed.
 pub struct Run {
@@ -124,4 +125,23 @@ pub(crate) fn field(s: &[u8], from: usize) -> Number
         };
     }
     long_field(s, from)
+}
+
+// The number of a field of one digit that a tab ends, else 10: most fields are such, and need no other test.
+pub(crate) fn short(s: &[u8], from: usize) -> u32
+    requires { ⌜ from ≤ length (now s) ⌝ }
+    ensures { λ r. ⌜ (r < 10 → Short (now (s .entry)) from r) ⌝ }
+{
+    let tab = from + 1;
+    if s.len() <= tab {
+        return 10;
+    }
+    if s[tab] != 9 {
+        return 10;
+    }
+    let b = s[from];
+    if !is_digit(b) {
+        return 10;
+    }
+    (b - 48) as u32
 }

@@ -1,8 +1,9 @@
 // One line of numbers.
 use crate::numbers::field;
+use crate::numbers::short;
 ghost use Prim.Native.Nat.{_+_};
 ghost use mathlib.Core.Path.{_≡_};
-ghost use lib.ListN.{drop, replicate};
+ghost use lib.ListN.{drop};
 ghost use Rattle.text.specs.Lines.{passed};
 ghost use Rattle.text.specs.Reading.{takenAt};
 ghost use Rattle.text.specs.Parts.{finished};
@@ -42,9 +43,6 @@ fn skip(s: &[u8], from: usize) -> Taken
 fn finish(s: &[u8], end: usize, count: usize, words: [u32; 8]) -> Taken
     ensures { λ r. ⌜ r ≡ finished (now (s .entry)) end count words ⌝ }
 {
-    if 8 < count {
-        return skip(s, end);
-    }
     if s.len() <= end {
         return Taken {
             count,
@@ -62,28 +60,37 @@ fn finish(s: &[u8], end: usize, count: usize, words: [u32; 8]) -> Taken
     skip(s, end)
 }
 
-// The numbers of the line at a place, and the place of the next. A ninth number is passed over here and refused at the line's
-// end: a test in the loop would have it unrolled eight times. A line of up to eight numbers has at most 87 bytes, so its length
-// needs no test.
+// The numbers of the line at a place, and the place of the next. A line of up to eight numbers has at most 87 bytes, so its
+// length needs no test.
 pub fn take(s: &[u8], from: usize) -> Taken
     ensures { λ r. ⌜ r ≡ takenAt (now (s .entry)) from ⌝ }
 {
+    if s.len() < from {
+        return skip(s, from);
+    }
     let mut words = [0u32; 8];
     let mut count: usize = 0;
     let mut i: usize = from;
-    loop {
+    while count < 8 {
+        let d = short(s, i);
+        if d < 10 {
+            words[count] = d;
+            count += 1;
+            i += 2;
+            continue;
+        }
         let f = field(s, i);
         let end = f.end;
         if end == i {
             return skip(s, i);
         }
-        if count < 8 {
-            words[count] = f.value;
-        }
+        words[count] = f.value;
         count += 1;
         if f.after != 9 {
             return finish(s, end, count, words);
         }
         i = end + 1;
     }
+    // a tab ended the eighth field, so there is a ninth
+    skip(s, i)
 }

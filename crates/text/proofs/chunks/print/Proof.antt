@@ -1,8 +1,9 @@
-use Prim.Native.Nat.{ℕ, _+_, _-_, _*_, _/_, _≤_, _<_}
-use mathlib.Core.Path.{_≡_, refl, sym, ap, _∙_}
+use Prim.Native.Nat.{_+_, _-_, _*_, _/_, _≤_}
+use mathlib.Core.Path.{_≡_, refl, _∙_}
 use native.Mathlib.Omega.{arith}
 use lib.ListN.{length, getD}
-use Rattle.text.proofs.Answers.{Printing, printing-start, text-event, text-other, printing-more, printing-end, put-short, no-bytes, no-words}
+use Rattle.text.specs.Writing.{answerText}
+use Rattle.text.proofs.Answers.{answer-short, fits, Printing, printing-start, text-event, text-other, printing-more, printing-end, no-bytes, no-words}
 use borrow.Author.Needs.{needs}
 use Rattle.text.proofs.chunks.print.Statement.{statement}
 use Rattle.text.proofs.chunks.print.Tie as tie
@@ -27,40 +28,34 @@ loop-holds c = (refl, c .before .if1 .left, c .if2 .left, refl, search needs, se
 shared-slice-read-if3 : tie.Need-shared-slice-read-if3 Inv-loop μ-loop
 shared-slice-read-if3 c = omega arith
 
-mul-write : tie.Need-mul-write Inv-loop μ-loop
-mul-write c = omega arith
+mul-place : tie.Need-mul-place Inv-loop μ-loop
+mul-place c = omega arith
 
-shared-slice-read-write : tie.Need-shared-slice-read-write Inv-loop μ-loop
-shared-slice-read-write c = omega arith
+shared-slice-read-place : tie.Need-shared-slice-read-place Inv-loop μ-loop
+shared-slice-read-place c = omega arith
 
-add-write : tie.Need-add-write Inv-loop μ-loop
-add-write c = omega arith
+add-place : tie.Need-add-place Inv-loop μ-loop
+add-place c = omega arith
 
-mul-write-2 : tie.Need-mul-write-2 Inv-loop μ-loop
-mul-write-2 c = omega arith
+mul-place-2 : tie.Need-mul-place-2 Inv-loop μ-loop
+mul-place-2 c = omega arith
 
-shared-slice-read-write-2 : tie.Need-shared-slice-read-write-2 Inv-loop μ-loop
-shared-slice-read-write-2 c = omega arith
+shared-slice-read-place-2 : tie.Need-shared-slice-read-place-2 Inv-loop μ-loop
+shared-slice-read-place-2 c = omega arith
 
-add-write-2 : tie.Need-add-write-2 Inv-loop μ-loop
-add-write-2 c = omega arith
+add-place-2 : tie.Need-add-place-2 Inv-loop μ-loop
+add-place-2 c = omega arith
 
-mul-write-3 : tie.Need-mul-write-3 Inv-loop μ-loop
-mul-write-3 c = omega arith
+mul-place-3 : tie.Need-mul-place-3 Inv-loop μ-loop
+mul-place-3 c = omega arith
 
-shared-slice-read-write-3 : tie.Need-shared-slice-read-write-3 Inv-loop μ-loop
-shared-slice-read-write-3 c = omega arith
+shared-slice-read-place-3 : tie.Need-shared-slice-read-place-3 Inv-loop μ-loop
+shared-slice-read-place-3 c = omega arith
 
-write-requires : tie.Need-write-requires Inv-loop μ-loop
-write-requires c κs = search needs
-
-add-at : tie.Need-add-at Inv-loop μ-loop
-add-at c =
-    let l = c .before .before .before .before .before .before .before .before .before .before .loop in
-    let s = c .before .before .before .before .before .before .before .before .before .before .before .before .before .before .before .before .args in
-    let w = c .before .before .write in
-    let k = put-short (l .dst) (l .at) (getD (s .answers .now) (l .a) 0) (getD (s .answers .now) (l .a + 1) 0) (getD (s .answers .now) (l .a + 2) 0) (w .result) (w .ensures .0) in
-    omega (arith, l .inv, k)
+place-requires : tie.Need-place-requires Inv-loop μ-loop
+place-requires c κs =
+    let l = c .before .before .before .before .before .before .before .loop in
+    fits (l .dst) (l .at) _ _ _ (omega (arith, l .inv))
 
 add-a : tie.Need-add-a Inv-loop μ-loop
 add-a c = omega arith
@@ -75,21 +70,19 @@ loop-again : tie.Need-loop-again Inv-loop μ-loop
 loop-again c =
     let l = c .before .before .before .before .before .before .before .before .before .before .loop in
     let s = c .before .before .before .before .before .before .before .before .before .before .before .before .before .before .before .before .args in
-    let w = c .before .before .write in
-    let k = put-short (l .dst) (l .at) (getD (s .answers .now) (l .a) 0) (getD (s .answers .now) (l .a + 1) 0) (getD (s .answers .now) (l .a + 2) 0) (w .result) (w .ensures .0) in
-    let t = printing-more _ _ _ (l .j) (l .a) (l .at) (l .dst) (l .inv .7) (l .inv .3) (omega (arith, l .inv)) (getD (s .answers .now) (l .a) 0) (getD (s .answers .now) (l .a + 1) 0) (getD (s .answers .now) (l .a + 2) 0) (l .j + 1) (l .a + 3) (w .result) (w .last .0)
+    let w = c .before .before .place in
+    let x = getD (s .answers .now) (l .a) 0 in
+    let y = getD (s .answers .now) (l .a + 1) 0 in
+    let z = getD (s .answers .now) (l .a + 2) 0 in
+    let k = answer-short x y z in
+    let g = printing-more _ _ _ (l .j) (l .a) (l .at) (l .dst) (l .inv .7) (answerText x y z) (l .j + 1) (l .a + 3) (w .result) (w .last .0)
     (text-event _ _ (l .j) (l .a) (omega (arith, l .inv)) (c .before .before .before .before .before .before .before .if3 .taken)) (w .ensures) in
-    (refl, l .inv .1, l .inv .2, t .same, omega (arith, l .inv), omega (arith, l .inv), omega (arith, l .inv, k), t .going)
+    (refl, l .inv .1, l .inv .2, w .kept .0 ∙ l .inv .3, omega (arith, l .inv), omega (arith, l .inv), omega (arith, l .inv, k), g)
 
-write-requires-2 : tie.Need-write-requires-2 Inv-loop μ-loop
-write-requires-2 c κs = search needs
-
-add-at-2 : tie.Need-add-at-2 Inv-loop μ-loop
-add-at-2 c =
-    let l = c .before .before .before .before .before .before .before .loop in
-    let w = c .before .before .write2 in
-    let k = put-short (l .dst) (l .at) 22 0 64 (w .result) (w .ensures .0) in
-    omega (arith, l .inv, k)
+place-requires-2 : tie.Need-place-requires-2 Inv-loop μ-loop
+place-requires-2 c κs =
+    let l = c .before .before .before .before .loop in
+    fits (l .dst) (l .at) _ _ _ (omega (arith, l .inv))
 
 add-j-2 : tie.Need-add-j-2 Inv-loop μ-loop
 add-j-2 c = omega arith
@@ -100,11 +93,11 @@ loop-less-2 c = omega arith
 loop-again-2 : tie.Need-loop-again-2 Inv-loop μ-loop
 loop-again-2 c =
     let l = c .before .before .before .before .before .before .before .loop in
-    let w = c .before .before .write2 in
-    let k = put-short (l .dst) (l .at) 22 0 64 (w .result) (w .ensures .0) in
-    let t = printing-more _ _ _ (l .j) (l .a) (l .at) (l .dst) (l .inv .7) (l .inv .3) (omega (arith, l .inv)) 22 0 64 (l .j + 1) (l .a) (w .result) (w .last .0)
+    let w = c .before .before .place2 in
+    let k = answer-short 22 0 64 in
+    let g = printing-more _ _ _ (l .j) (l .a) (l .at) (l .dst) (l .inv .7) (answerText 22 0 64) (l .j + 1) (l .a) (w .result) (w .last .0)
     (text-other _ _ (l .j) (l .a) (omega (arith, l .inv)) (c .before .before .before .before .if3 .left)) (w .ensures) in
-    (refl, l .inv .1, l .inv .2, t .same, omega (arith, l .inv), omega (arith, l .inv), omega (arith, l .inv, k), t .going)
+    (refl, l .inv .1, l .inv .2, w .kept .0 ∙ l .inv .3, omega (arith, l .inv), omega (arith, l .inv), omega (arith, l .inv, k), g)
 
 same-length : tie.Need-same-length Inv-loop μ-loop
 same-length c = c .before .loop .inv .3
@@ -124,22 +117,20 @@ print-spec =
     returns-2
     loop-holds
     shared-slice-read-if3
-    mul-write
-    shared-slice-read-write
-    add-write
-    mul-write-2
-    shared-slice-read-write-2
-    add-write-2
-    mul-write-3
-    shared-slice-read-write-3
-    write-requires
-    add-at
+    mul-place
+    shared-slice-read-place
+    add-place
+    mul-place-2
+    shared-slice-read-place-2
+    add-place-2
+    mul-place-3
+    shared-slice-read-place-3
+    place-requires
     add-a
     add-j
     loop-less
     loop-again
-    write-requires-2
-    add-at-2
+    place-requires-2
     add-j-2
     loop-less-2
     loop-again-2
