@@ -2,7 +2,7 @@
 use Prim.Native.Nat.{ℕ, _≤_, _<_}
 use mathlib.Core.Path.{_≡_, sym, ap, subst, _∙_}
 use mathlib.Core.Logic.{_≢_}
-use mathlib.Core.Bool.{true, false, _||_}
+use mathlib.Core.Bool.{true, false}
 use mathlib.Core.List.{List, _∷_, _++_, map, List·Permᴰ}
 use native.Mathlib.Omega.{arith}
 use borrow.Author.Tests.{eqb-false}
@@ -13,7 +13,7 @@ use Rattle.model.specs.States.{freeMessage, cellAt, slotAt, serialAt}
 use Rattle.model.specs.WellFormed.{wellFormed}
 use Rattle.model.specs.Fresh.{startOf}
 use Rattle.model.specs.Cells.{ableToWrite}
-use Rattle.model.specs.Refusals.{reading, writing, delivering, dropping, copyless}
+use Rattle.model.specs.Refusals.{reading, delivering, dropping, copyless}
 use Rattle.model.specs.Effects.{answer, emptied, stepOf}
 use Rattle.model.specs.Runs.{answersOf, lastWrite}
 use Rattle.model.proofs.Laws.Views.{caches-of, lines-of, total-of}

@@ -1,6 +1,6 @@
 -- A run over the lines of a chunk. Assumes nothing.
-use Prim.Native.Nat.{ℕ, zero, suc, _+_, _-_, _*_, _≤_, _<_}
-use mathlib.Core.Path.{_≡_, refl, sym, ap, subst, _∙_}
+use Prim.Native.Nat.{ℕ, suc, _+_, _-_, _≤_, _<_}
+use mathlib.Core.Path.{_≡_, refl, sym, ap, _∙_}
 use mathlib.Core.Bool.{Bool, true, false, cond}
 use mathlib.Core.List.{List, [], _∷_, _++_, map, append-nil}
 use mathlib.Core.Option.{Option, none, some}
@@ -8,10 +8,9 @@ use native.Mathlib.Omega.{arith}
 use native.Mathlib.Nat.{add-zero, zero-add}
 use native.Mathlib.Numerals.{add-one}
 use borrow.Author.Tests.{eq-eqb, ne-eqb, leb-false}
-use lib.Dec.{eqb, leb}
+use lib.Dec.{leb}
 use lib.ListN.{length, take, drop, set, replicate, length-append, drop-of-length-le}
 use lib.Seq.{sets, sets-eq, take-nil, drop-drop}
-use Rattle.text.specs.declared.chunks.Parsed.{Parsed}
 use Rattle.text.specs.declared.reading.Taken.{Taken}
 use Rattle.text.specs.Lines.{linesOf, firstLine, passed, passedBy}
 use Rattle.text.specs.Reading.{numbersOf, exactly, unread, packed, takenAt}

@@ -1,13 +1,12 @@
 -- The fields of a line that begins with digits. Assumes nothing.
-use Prim.Native.Nat.{ℕ, zero, suc, _+_, _-_, _*_, _≤_, _<_}
-use mathlib.Core.Path.{_≡_, refl, sym, ap, _∙_}
-use mathlib.Core.Bool.{Bool, true, false, cond, _&&_}
+use Prim.Native.Nat.{ℕ}
+use mathlib.Core.Path.{_≡_, refl}
+use mathlib.Core.Bool.{Bool, true, false}
 use mathlib.Core.List.{List, [], _∷_, _++_, append-nil}
-use mathlib.Core.Option.{Option, none, some}
+use mathlib.Core.Option.{none, some}
 use native.Mathlib.Omega.{arith}
 use borrow.Author.Tests.{ne-eqb}
 use lib.Dec.{eqb}
-use Rattle.text.specs.Lines.{onto}
 use Rattle.text.specs.Reading.{fieldsOf, isDigit, allDigits, valueOf, both, valuesOf}
 use Rattle.text.specs.Parts.{numbers}
 use Rattle.text.proofs.Bools.{and-true, digit-in}

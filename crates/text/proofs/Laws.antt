@@ -1,17 +1,17 @@
 -- What the definitions of the text promise together. Assumes nothing.
-use Prim.Native.Nat.{ℕ, zero, suc, _+_, _-_, _*_, _/_, _%_, _^_, _≤_, _<_}
+use Prim.Native.Nat.{ℕ, zero, suc, _+_, _/_, _%_, _^_, _≤_, _<_}
 use mathlib.Core.Path.{_≡_, refl, sym, ap, _∙_}
-use mathlib.Core.Bool.{Bool, true, false, not, cond, _&&_}
+use mathlib.Core.Bool.{Bool, true, false, not, cond}
 use mathlib.Core.List.{List, [], _∷_, _++_, map, append-assoc, append-nil}
 use mathlib.Core.Logic.{⊎-elim}
 use mathlib.Core.Option.{Option, none, some}
 use native.Mathlib.Omega.{arith}
 use native.Mathlib.Nat.{pow-suc}
-use borrow.Author.Tests.{eqb-true, ne-eqb, le-leb, not-true}
+use borrow.Author.Tests.{eqb-true, le-leb, not-true}
 use lib.Dec.{leb, eqb}
 use lib.ListN.{length, getD, drop, replicate, length-append, List·getD-append}
 use Rattle.text.specs.Lines.{linesOf, firstLine, passed}
-use Rattle.text.specs.Reading.{fieldsOf, isDigit, allDigits, unpadded, spelled, valueOf, valuesOf, numbersOf, exactly}
+use Rattle.text.specs.Reading.{fieldsOf, allDigits, unpadded, spelled, valueOf, valuesOf, numbersOf, exactly}
 use Rattle.text.specs.Writing.{decimalTo, decimal, ended, answerText}
 use Rattle.text.specs.Parts.{digits, numbers}
 use Rattle.text.proofs.Bools.{and-true, digit-yes}

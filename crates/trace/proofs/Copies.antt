@@ -1,16 +1,12 @@
 -- What `whole` and `carry` do. Assumes nothing.
-use Prim.Native.Nat.{ℕ, zero, suc, _+_, _-_, _≤_, _<_, min}
+use Prim.Native.Nat.{ℕ, suc, _+_, _-_, _≤_, _<_, min}
 use mathlib.Core.Path.{_≡_, refl, sym, ap, _∙_}
-use mathlib.Core.Bool.{Bool, true, false}
 use mathlib.Core.List.{List, [], _∷_, _++_}
 use native.Mathlib.Omega.{arith}
 use native.Mathlib.Nat.{zero-add, add-comm}
-use native.Mathlib.Numerals.{add-one}
 use borrow.Author.Tests.{eq-eqb, ne-eqb}
-use lib.Dec.{eqb}
 use lib.ListN.{length, getD, take, drop, set, length-take, length-drop, length-set, drop-of-length-le}
 use lib.Seq.{sets, take-suc, getD-take, getD-drop, drop-drop, drop-set-lt, length-take-le, take-nil, ext-getD}
-use Rattle.model.specs.Tools.{pick}
 use Rattle.text.proofs.Stores.{sets-step, sets-all}
 use Rattle.trace.specs.Arrivals.{wholeOf, carriedFrom}
 

@@ -1,17 +1,16 @@
 -- What the definition of the program promises. Assumes nothing.
-use Prim.Native.Nat.{ℕ, zero, suc, _+_, _-_, _≤_, _<_}
+use Prim.Native.Nat.{ℕ, zero, suc, _<_}
 use mathlib.Core.Path.{_≡_, refl, sym, ap, _∙_}
-use mathlib.Core.Bool.{Bool, true, false, not, _&&_}
+use mathlib.Core.Bool.{Bool, true, false, not}
 use mathlib.Core.List.{List, [], _∷_, _++_, flatten, append-assoc, append-nil}
-use mathlib.Core.Option.{Option, none, some}
+use mathlib.Core.Option.{none}
 use native.Mathlib.Omega.{arith}
 use borrow.Author.Tests.{lt-leb, leb-true, leb-false}
 use lib.Dec.{leb, eqb}
-use lib.ListN.{length, take, drop, take-append-drop, length-append}
+use lib.ListN.{length, take, drop, length-append}
 use lib.Seq.{take-all, length-take-le}
-use Rattle.model.specs.Tools.{pick}
-use Rattle.text.specs.Lines.{linesOf, firstLine, passed, passedBy}
-use Rattle.text.specs.Reading.{numbersOf, exactly}
+use Rattle.text.specs.Lines.{linesOf, firstLine, passedBy}
+use Rattle.text.specs.Reading.{numbersOf}
 use Rattle.text.proofs.Bools.{and-true}
 use Rattle.text.proofs.Lines.{free, lines-free}
 use Rattle.trace.specs.declared.kept.Kept.{Kept}

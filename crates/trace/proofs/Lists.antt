@@ -1,12 +1,11 @@
 -- Lines in sequence. Assumes nothing.
-use Prim.Native.Nat.{ℕ, zero, suc, _+_, _≤_, _<_}
+use Prim.Native.Nat.{ℕ, zero, suc, _+_}
 use mathlib.Core.Path.{_≡_, refl, sym, ap, _∙_}
 use mathlib.Core.List.{List, [], _∷_, _++_, append-assoc}
-use native.Mathlib.Omega.{arith}
-use lib.ListN.{length, take, drop}
+use lib.ListN.{take, drop}
 use lib.Seq.{drop-drop, drop-nil, take-nil}
 use Rattle.text.specs.Lines.{linesOf, firstLine, passed, passedBy}
-use Rattle.text.proofs.Lines.{lines-cons, passed-nil}
+use Rattle.text.proofs.Lines.{lines-cons}
 use Rattle.trace.specs.declared.kept.Kept.{Kept}
 use Rattle.trace.specs.Program.{keptAfter, keptBy, printedBy, lineText, lineDoes}
 

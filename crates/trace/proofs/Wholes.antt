@@ -1,5 +1,5 @@
 -- Whole lines of an input, and what follows them. Assumes nothing.
-use Prim.Native.Nat.{ℕ, zero, suc, _+_, _-_, _≤_, _<_}
+use Prim.Native.Nat.{ℕ, suc, _≤_}
 use mathlib.Core.Path.{_≡_, refl, sym, ap, _∙_}
 use mathlib.Core.Bool.{Bool, true, false, not, cond, _&&_}
 use mathlib.Core.List.{List, [], _∷_, _++_, append-assoc}
@@ -8,8 +8,7 @@ use borrow.Author.Tests.{eqb-true, eqb-false, ne-eqb, eq-eqb}
 use lib.Dec.{eqb}
 use lib.ListN.{length, take, drop, take-append-drop}
 use lib.Seq.{length-take-le}
-use Rattle.model.specs.Tools.{pick}
-use Rattle.text.specs.Lines.{onto, linesOf, firstLine, passed}
+use Rattle.text.specs.Lines.{onto, linesOf}
 use Rattle.text.proofs.Lines.{free, lines-cons}
 use Rattle.trace.specs.Arrivals.{wholeOf}
 

@@ -1,15 +1,14 @@
 -- The passes over a state, put together. Assumes nothing.
 use Prim.Native.Nat.{ℕ, _+_}
 use mathlib.Core.Bool.{Bool, _&&_}
-use mathlib.Core.Path.{_≡_, refl, sym, ap, ap₂, _∙_}
+use mathlib.Core.Path.{_≡_, ap, ap₂, _∙_}
 use mathlib.Core.List.{List}
-use native.Mathlib.Omega.{arith}
 use lib.Dec.{leb}
 use lib.ListN.{getD}
 use Rattle.model.specs.Types.{State}
-use Rattle.model.specs.Tools.{every, allTo}
+use Rattle.model.specs.Tools.{allTo}
 use Rattle.model.specs.WellFormed.{sizesFine, inMessages, tokensOf, wellFormed}
-use Rattle.model.specs.WellFormed.{serialFineAt, withinTotal}
+use Rattle.model.specs.WellFormed.{serialFineAt}
 use Rattle.model.specs.WellFormed.{borne}
 use Rattle.model.specs.Tallies.{CellsChecked, PoolChecked}
 use Rattle.model.proofs.Facts.Bools.{every-is}

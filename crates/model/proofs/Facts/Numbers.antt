@@ -1,11 +1,11 @@
 -- The number of an event over a well formed state, by what it names: the rows that can apply. Assumes nothing.
 use Prim.Native.Nat.{ℕ, _≤_, _<_}
-use mathlib.Core.Bool.{Bool, true, false, not, _&&_, _||_, or-false}
-use mathlib.Core.Path.{_≡_, refl, sym, ap, _∙_}
+use mathlib.Core.Bool.{true, false, not, _||_, or-false}
+use mathlib.Core.Path.{_≡_, refl, ap, _∙_}
 use mathlib.Core.List.{List, [], _∷_, _++_}
 use native.Mathlib.Omega.{arith}
 use lib.Dec.{eqb, leb, ltb}
-use borrow.Author.Tests.{lt-ltb, ltb-true, ltb-false, leb-false, eqb-true, ne-eqb}
+use borrow.Author.Tests.{lt-ltb, ltb-true, ltb-false, leb-false, ne-eqb}
 use Rattle.model.specs.Types.{Cell, Sizes, State, Event}
 use Rattle.model.specs.Tools.{pick}
 use Rattle.model.specs.States.{cellAt, serialAt}

@@ -1,15 +1,12 @@
 -- A recreation as the code works it out, over a line's nine cells. Assumes nothing.
 use Prim.Native.Nat.{ℕ, _≤_, _<_}
-use mathlib.Core.Path.{_≡_, refl, sym, ap, _∙_}
+use mathlib.Core.Path.{_≡_, sym, _∙_}
 use mathlib.Core.List.{List, map}
-use lib.Dec.{eqb}
 use lib.ListN.{length, length-map}
 use borrow.Author.Tests.{lt-ltb, le-ltb}
 use Rattle.model.specs.Types.{Cell}
-use Rattle.model.specs.Tools.{fillTo}
 use Rattle.model.specs.Refusals.{lowest}
-use Rattle.model.specs.Effects.{wordFor, afterRecreation}
-use Rattle.model.specs.Nines.{nth, renewedOf}
+use Rattle.model.specs.Effects.{wordFor}
 
 -- the length of an array of structs, from what is known of it
 pub mapped-long : (A B : Type 0) (f : A → B) (l : List A) (n : ℕ) → length (map f l) ≡ n → length l ≡ n

@@ -1,11 +1,11 @@
 -- The run's loop: what is left of the events, from where the loop is, gives what the whole list gives from the start. Assumes nothing.
-use Prim.Native.Nat.{ℕ, zero, suc, _+_, _*_, _-_, _≤_, _<_}
+use Prim.Native.Nat.{ℕ, suc, _+_, _*_, _-_, _≤_, _<_}
 use mathlib.Core.Bool.{true}
-use mathlib.Core.Path.{_≡_, refl, sym, ap, ap₂, _∙_}
+use mathlib.Core.Path.{_≡_, refl, sym, ap, _∙_}
 use mathlib.Core.List.{List, [], _∷_}
 use native.Mathlib.Omega.{arith}
 use native.Mathlib.Numerals.{add-one, add-two}
-use lib.ListN.{length, getD, set, take, drop, replicate, length-set}
+use lib.ListN.{length, take, drop, replicate, length-set}
 use lib.Seq.{sets, drop-drop, getD-take}
 use Rattle.model.specs.Types.{Sizes, State, Event, Answer}
 use Rattle.model.specs.WellFormed.{wellFormed}

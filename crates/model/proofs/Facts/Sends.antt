@@ -1,6 +1,6 @@
 -- The turns of a send. Assumes nothing.
-use Prim.Native.Nat.{ℕ, _+_, _*_, _≤_, _<_}
-use mathlib.Core.Bool.{Bool, true, false, not, _&&_, _||_}
+use Prim.Native.Nat.{ℕ, _≤_, _<_}
+use mathlib.Core.Bool.{true, false, _||_}
 use mathlib.Core.Path.{_≡_, refl, sym, ap, _∙_}
 use mathlib.Core.Logic.{_≢_}
 use mathlib.Core.List.{List}
@@ -9,12 +9,11 @@ use lib.Dec.{eqb, leb, ltb}
 use lib.ListN.{length, getD, set, length-set}
 use borrow.Author.Tests.{ltb-false, leb-false, eqb-false}
 use Rattle.model.specs.Types.{Cell, Tokens, Message, Sizes, State, Event, Answer}
-use Rattle.model.specs.Tools.{pick}
 use Rattle.model.specs.Cells.{zeroCell}
 use Rattle.model.specs.States.{serialAt, withCell, withSlot}
 use Rattle.model.specs.WellFormed.{wellFormed}
 use Rattle.model.specs.Refusals.{refusal, given, slotted, cellOf, lowestFree}
-use Rattle.model.specs.Effects.{answer, sentCell, sentMessage, sendOf, effect, stepOf}
+use Rattle.model.specs.Effects.{answer, sentCell, sentMessage, sendOf, effect}
 use Rattle.model.specs.Rows.{sendRows, sendRefusal}
 use Rattle.model.specs.Needs.{Sendable}
 use Rattle.model.specs.Places.{Within, Placed}

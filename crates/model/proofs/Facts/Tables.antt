@@ -1,13 +1,12 @@
 -- Laws of the table of sums. Assumes nothing.
 use Prim.Native.Nat.{ℕ, zero, suc, _+_, _*_, _≤_, _<_}
 use native.Mathlib.Nat.{add-zero}
-use mathlib.Core.Bool.{Bool, true, false, not, _&&_, and-false, false-and}
-use mathlib.Core.Path.{_≡_, refl, sym, ap, subst, _∙_}
+use mathlib.Core.Bool.{Bool, true, false, and-false}
+use mathlib.Core.Path.{_≡_, refl, sym, ap, _∙_}
 use mathlib.Core.Logic.{_≢_}
 use mathlib.Core.List.{List, [], _∷_}
 use native.Mathlib.Omega.{arith}
 use native.Mathlib.Decide.{ℕ-discrete}
-use lib.Dec.{eqb}
 use lib.ListN.{length, getD, set}
 use lib.Seq.{getD-set-same, getD-set-other}
 use borrow.Author.Tests.{ne-eqb}
@@ -16,7 +15,7 @@ use Rattle.model.specs.Cells.{zeroCell}
 use Rattle.model.specs.Tallies.{LineChecked}
 use Rattle.model.proofs.Laws.Sums.{sum-same}
 use Rattle.model.proofs.Facts.Loops.{all-same}
-use Rattle.model.specs.States.{isFree, bears, cellAt}
+use Rattle.model.specs.States.{bears, cellAt}
 use Rattle.model.specs.WellFormed.{counted, held, inCells, cellFine, lineFine}
 use Rattle.model.specs.WellFormed.{borne}
 

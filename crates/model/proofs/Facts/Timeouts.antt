@@ -7,7 +7,7 @@ use native.Mathlib.Omega.{arith}
 use lib.Dec.{eqb}
 use lib.ListN.{length, getD, set}
 use Rattle.model.specs.Types.{Serial, Cell, Tokens, Sizes, State, Event, Answer}
-use Rattle.model.specs.Tools.{pick, fillTo}
+use Rattle.model.specs.Tools.{fillTo}
 use Rattle.model.specs.Cells.{zeroCell}
 use Rattle.model.specs.States.{cellAt, serialAt, withCells, withSerial}
 use Rattle.model.specs.WellFormed.{wellFormed}

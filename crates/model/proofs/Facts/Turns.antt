@@ -1,8 +1,8 @@
 -- One turn of the run's loop is one step of the definition: an arm for each way through. Assumes nothing.
 use Prim.Native.Nat.{ℕ, _+_, _*_, _≤_, _<_}
-use mathlib.Core.Bool.{Bool, true, false, not, _&&_, _||_}
-use mathlib.Core.Path.{_≡_, refl, sym, ap, ap₂, subst, _∙_}
-use mathlib.Core.List.{List, [], _∷_}
+use mathlib.Core.Bool.{Bool, true, false, not}
+use mathlib.Core.Path.{_≡_, refl, sym, ap, _∙_}
+use mathlib.Core.List.{List, []}
 use native.Mathlib.Omega.{arith}
 use native.Mathlib.Decide.{ℕ-discrete}
 use lib.Dec.{eqb, ltb}
@@ -13,16 +13,16 @@ use Rattle.model.specs.Types.{Cell, MessageKind, Free, Tokens, Ownership
 use Rattle.model.specs.declared.changes.SlotChange.{SlotChange}
 use Rattle.model.specs.Tools.{pick}
 use Rattle.model.specs.Cells.{zeroCell}
-use Rattle.model.specs.States.{freeMessage, cellAt, slotAt, serialAt, withCells, withCell, withSlot, isFree}
+use Rattle.model.specs.States.{freeMessage, cellAt, slotAt, serialAt, withCell, withSlot, isFree}
 use Rattle.model.specs.WellFormed.{wellFormed}
-use Rattle.model.specs.Refusals.{refusal, reading, slotted, dropping, cellOf, freeAt}
-use Rattle.model.specs.Effects.{answer, answered, ack, target, landed, emptied, arrive, deliverOf, readOf, writeOf, wantOf, effect, stepOf}
+use Rattle.model.specs.Refusals.{refusal, reading, slotted, cellOf, freeAt}
+use Rattle.model.specs.Effects.{answer, answered, target, landed, emptied, arrive, deliverOf, readOf, writeOf, wantOf, effect, stepOf}
 use Rattle.model.specs.Rows.{cellRows, cellRefusal}
 use Rattle.model.specs.Changes.{wantedBy, touchedCell, discarded, ownershipAcked, deletionAcked, arriveBy, arriveOf, lost, replyOf}
 use Rattle.model.specs.Places.{Within, Placed}
 use Rattle.model.specs.Tags.{tagOf, slotTag, Tagged, slotRefusal}
-use Rattle.model.proofs.Laws.Bools.{clash, split, by-pick, or-left, or-right}
-use Rattle.model.proofs.Laws.Views.{Sized, same-cell, same-slot}
+use Rattle.model.proofs.Laws.Bools.{clash, split}
+use Rattle.model.proofs.Laws.Views.{Sized, same-cell}
 use Rattle.model.proofs.Keeps.Accepted.{by-kind, numbered}
 use Rattle.model.proofs.Keeps.Numbers.{step-effect, step-refused}
 use Rattle.model.proofs.Keeps.Well.{well-sizes, well-address, well-tokens, well-count}

@@ -1,6 +1,5 @@
 use Rattle.model.specs.Changes.{lost}
 use mathlib.Core.Path.{refl}
-use borrow.Author.Needs.{needs}
 use Rattle.model.proofs.changes.lost.Statement.{statement}
 use Rattle.model.proofs.changes.lost.Tie as tie
 

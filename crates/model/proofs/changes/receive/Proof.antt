@@ -1,5 +1,4 @@
 use Rattle.model.proofs.Facts.Changes.{received-of}
-use mathlib.Core.Path.{_≡_, refl}
 use borrow.Author.Needs.{needs}
 use Rattle.model.proofs.changes.receive.Statement.{statement}
 use Rattle.model.proofs.changes.receive.Tie as tie

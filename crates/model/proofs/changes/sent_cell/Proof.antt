@@ -1,6 +1,5 @@
 use borrow.Author.Tests.{eq-eqb, ne-eqb}
 use Rattle.model.specs.Effects.{sentCell}
-use native.Mathlib.Omega.{arith}
 use borrow.Author.Needs.{needs}
 use Rattle.model.proofs.changes.sent_cell.Statement.{statement}
 use Rattle.model.proofs.changes.sent_cell.Tie as tie

@@ -1,6 +1,5 @@
 use Rattle.model.specs.Changes.{wantedBy}
 use borrow.Author.Tests.{ne-eqb}
-use borrow.Author.Needs.{needs}
 use Rattle.model.proofs.changes.wanted.Statement.{statement}
 use Rattle.model.proofs.changes.wanted.Tie as tie
 

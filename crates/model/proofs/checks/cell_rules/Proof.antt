@@ -1,5 +1,4 @@
 use Rattle.model.proofs.Facts.Bools.{every-is}
-use Rattle.model.specs.Tools.{every}
 use Rattle.model.specs.WellFormed.{cellRules}
 use borrow.Author.Needs.{needs}
 use Rattle.model.proofs.checks.cell_rules.Statement.{statement}

@@ -1,7 +1,5 @@
 use Rattle.model.proofs.Facts.Bools.{every-is}
-use Rattle.model.specs.Tools.{every}
 use Rattle.model.specs.WellFormed.{tokensFine}
-use mathlib.Core.Path.{refl}
 use Rattle.model.proofs.checks.tokens_fine.Statement.{statement}
 use Rattle.model.proofs.checks.tokens_fine.Tie as tie
 

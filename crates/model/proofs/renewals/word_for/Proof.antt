@@ -1,7 +1,5 @@
 use Rattle.model.proofs.Facts.Renewals.{word-owner, word-valid, word-backup, word-none}
 use Rattle.model.specs.Nines.{nth}
-use borrow.Author.Tests.{lt-ltb, le-ltb}
-use Rattle.model.specs.Effects.{wordFor}
 use borrow.Author.Needs.{needs}
 use Rattle.model.proofs.renewals.word_for.Statement.{statement}
 use Rattle.model.proofs.renewals.word_for.Tie as tie

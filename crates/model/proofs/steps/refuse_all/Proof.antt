@@ -6,7 +6,7 @@ use lib.Seq.{sets}
 use lib.ListN.{length, replicate}
 use mathlib.Core.Path.{_≡_, refl, _∙_, ap}
 use native.Mathlib.Omega.{arith}
-use Prim.Native.Nat.{_-_, _≤_, _<_, _*_, _+_}
+use Prim.Native.Nat.{_-_, _≤_, _*_}
 use borrow.Author.Needs.{needs}
 use Rattle.model.proofs.steps.refuse_all.Statement.{statement}
 use Rattle.model.proofs.steps.refuse_all.Tie as tie

@@ -1,8 +1,7 @@
-use Prim.Native.Nat.{ℕ, min, _+_, _-_, _*_, _≤_, _<_}
-use mathlib.Core.Path.{_≡_, refl, sym, ap, _∙_}
+use Prim.Native.Nat.{min, _-_, _*_, _≤_}
+use mathlib.Core.Path.{_≡_, refl, ap, _∙_}
 use native.Mathlib.Omega.{arith}
-use lib.ListN.{length, set, length-set}
-use lib.Seq.{length-sets}
+use lib.ListN.{length, length-set}
 use Rattle.text.specs.Chunks.{room}
 use Rattle.text.proofs.Events.{Going, going-start, going-event, going-other, going-full, going-none}
 use borrow.Author.Needs.{needs}

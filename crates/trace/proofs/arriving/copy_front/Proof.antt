@@ -1,7 +1,5 @@
 use Prim.Native.Nat.{_-_, _≤_}
-use mathlib.Core.Path.{_≡_, refl, sym, ap, _∙_}
 use native.Mathlib.Omega.{arith}
-use lib.ListN.{length}
 use Rattle.trace.proofs.Copies.{Copying, copying-start, copying-more, copying-end}
 use borrow.Author.Needs.{needs}
 use Rattle.trace.proofs.arriving.copy_front.Statement.{statement}

@@ -1,4 +1,4 @@
-use mathlib.Core.Path.{_≡_, ap, _∙_}
+use mathlib.Core.Path.{ap, _∙_}
 use Rattle.trace.proofs.Starts.{zero-start}
 use mathlib.Core.Bool.{false}
 use Rattle.model.specs.declared.states.State.{State}
