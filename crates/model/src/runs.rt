@@ -18,7 +18,6 @@ use crate::events::Answer;
 use crate::events::Event;
 use crate::messages::MessageKind;
 use crate::moves::either;
-use crate::places::byte;
 use crate::places::place;
 use crate::places::row;
 use crate::refusals::cell_refusal;
@@ -84,8 +83,8 @@ pub(crate) fn run(s: State, n: usize, events: &[u32], answers: &mut [u32]) -> St
                 if number == 0 {
                     let j = e.amount as usize;
                     let m = t.pool[j];
-                    let k = place(m.line, m.destination);
-                    let q = t.serials[row(m.line)];
+                    let k = place(m.line as u32, m.destination as u32);
+                    let q = t.serials[row(m.line as u32)];
                     let x = t.cells[k];
                     let total = z.total;
                     let change = arrived(total, q, e, x, m);
@@ -97,10 +96,8 @@ pub(crate) fn run(s: State, n: usize, events: &[u32], answers: &mut [u32]) -> St
                     said = change.answer;
                 }
             } else {
-                let line = byte(e.line);
-                let node = byte(e.node);
-                let k = place(line, node);
-                let l = row(line);
+                let k = place(e.line, e.node);
+                let l = row(e.line);
                 let x = t.cells[k];
                 let q = t.serials[l];
                 if kind == 2 {
@@ -110,7 +107,7 @@ pub(crate) fn run(s: State, n: usize, events: &[u32], answers: &mut [u32]) -> St
                     if number == 0 {
                         t.cells[k] = sent_cell(e, x);
                         t.pool[slot] = sent_message(e, q, x);
-                        tags[slot] = tag(MessageKind::Tokens, line, q);
+                        tags[slot] = tag(MessageKind::Tokens, l as u8, q);
                         said = answer(0, 0, slot as u32);
                     }
                 } else {
@@ -131,13 +128,13 @@ pub(crate) fn run(s: State, n: usize, events: &[u32], answers: &mut [u32]) -> St
                                 from += 1;
                             }
                             let next = next_serial(q);
-                            let free = absent(&tags, tag(MessageKind::Tokens, line, next));
+                            let free = absent(&tags, tag(MessageKind::Tokens, l as u8, next));
                             let late = renewal_refusal(!free, nine);
                             said = answer(late, 0, 64);
                             if late == 0 {
                                 let total = z.total;
                                 let word = word_for(nine);
-                                let chosen = node as usize;
+                                let chosen = e.node as usize;
                                 let mut to: usize = 0;
                                 while to < 9 {
                                     let c = nine[to];

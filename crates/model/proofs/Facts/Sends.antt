@@ -64,8 +64,8 @@ sendable t w e x i hz h g =
     record { line = omega arith; node = omega arith; other = omega arith; amount = s .amount }
 
 module _ (t : State) (sized : Sized t) (w : wellFormed t ≡ true) (e : Event) (tags : List ℕ) (tagged : Tagged tags (t .pool)) (slots : length tags ≡ 64)
-    (known : e .kind < 10) (unslotted : slotted (e .kind) ≡ false) {k : ℕ} {b n : ℕ} (hb : Within 256 (e .line) b) (hn : Within 256 (e .node) n)
-    (pk : Placed b n k) {z : Sizes} (hz : z ≡ t .sizes) (sends : e .kind ≡ 2) {i : ℕ} (hi : i ≡ firstUntagged tags) {number : ℕ}
+    (known : e .kind < 10) (unslotted : slotted (e .kind) ≡ false) {k : ℕ}
+    (pk : Placed (e .line) (e .node) k) {z : Sizes} (hz : z ≡ t .sizes) (sends : e .kind ≡ 2) {i : ℕ} (hi : i ≡ firstUntagged tags) {number : ℕ}
     (hm : number ≡ sendRefusal z e (getD (t .cells) k zeroCell) i) where
   slot-is : i ≡ lowestFree t
   slot-is = hi ∙ free-found t tagged
@@ -73,7 +73,7 @@ module _ (t : State) (sized : Sized t) (w : wellFormed t ≡ true) (e : Event) (
   number-is : refusal t e ≡ number
   number-is =
       send-number t e w sends
-      ∙ sym (send-same (t .sizes) e (getD (t .cells) k zeroCell) (cellOf t e) (lowestFree t) (named t sized w e tags tagged slots known unslotted hb hn pk))
+      ∙ sym (send-same (t .sizes) e (getD (t .cells) k zeroCell) (cellOf t e) (lowestFree t) (named t sized w e tags tagged slots known unslotted pk))
       ∙ sym (rw (hz, slot-is) at hm)
 
   pub send-refused : (number ≡ 0 → ⊥) → {a : Answer} → a ≡ answer number 0 64 → Turned t e t a tags
@@ -83,19 +83,18 @@ module _ (t : State) (sized : Sized t) (w : wellFormed t ≡ true) (e : Event) (
     is-sent : Sent (t .sizes) e (getD (t .cells) k zeroCell) i
     is-sent = sent (t .sizes) e (getD (t .cells) k zeroCell) i (rw hz at (sym hm ∙ accepted))
 
-    pub send-turn : i ≤ 64 → {r : ℕ} → Within 16 b r → {y : Cell} {m : Message} {tag : ℕ} {a : Answer} → y ≡ sentCell e (getD (t .cells) k zeroCell)
-        → m ≡ sentMessage e (getD (t .serials) r (record { 0 = 0 }) .0) (getD (t .cells) k zeroCell) → tag ≡ tagOf Tokens b (getD (t .serials) r (record { 0 = 0 }) .0) → a ≡ answer 0 0 i
+    pub send-turn : i ≤ 64 → {r : ℕ} → Within 16 (e .line) r → {y : Cell} {m : Message} {tag : ℕ} {a : Answer} → y ≡ sentCell e (getD (t .cells) k zeroCell)
+        → m ≡ sentMessage e (getD (t .serials) r (record { 0 = 0 }) .0) (getD (t .cells) k zeroCell) → tag ≡ tagOf Tokens r (getD (t .serials) r (record { 0 = 0 }) .0) → a ≡ answer 0 0 i
         → Turned t e (record { sizes = t .sizes; serials = t .serials; cells = set (t .cells) k y; pool = set (t .pool) i m }) a (set tags i tag)
     unfolding sendOf effect withCell withSlot serialAt
     send-turn room {r} pr {y} {m} hy hs hg ha =
         let s = is-sent in
         let zs = well-sizes t w in
-        let x = named t sized w e tags tagged slots known unslotted hb hn pk (s .line) (s .node) in
-        let at = loaded t sized w e tags tagged slots known unslotted hb hn pk (s .line) (s .node) in
-        let line : b ≡ e .line = hb .same (omega arith) in
-        let row : r ≡ e .line = pr .same (omega arith) ∙ line in
+        let x = named t sized w e tags tagged slots known unslotted pk (s .line) (s .node) in
+        let at = loaded t sized w e tags tagged slots known unslotted pk (s .line) (s .node) in
+        let row : r ≡ e .line = pr .same (omega arith) in
         turn-of t e (step-effect t e (number-is ∙ accepted) ∙ ap (effect t e) sends) (rw (hy, hs, x, at, row, slot-is)) (rw (ha, slot-is))
-        (tag-set i m tagged slots (sized .pool) (omega (arith, s .room)) (rw (hs, ← line) hg))
+        (tag-set i m tagged slots (sized .pool) (omega (arith, s .room)) (rw (hs, ← row) hg))
         (simp length-set slots)
 
 -- a send that is not refused has found a slot

@@ -39,42 +39,28 @@ pub record Copied (cells : List Cell) (l : ℕ) (nine : List Cell) : Type 0 wher
   pub same : (n : ℕ) → n < 9 → nth nine n ≡ getD cells (l * 9 + n) zeroCell
 
 module _ (t : State) (sized : Sized t) (w : wellFormed t ≡ true) (e : Event) (tags : List ℕ) (tagged : Tagged tags (t .pool)) (slots : length tags ≡ 64)
-    (known : e .kind < 10) (unslotted : slotted (e .kind) ≡ false) {k : ℕ} {b n : ℕ} (hb : Within 256 (e .line) b) (hn : Within 256 (e .node) n)
-    (pk : Placed b n k) {z : Sizes} (hz : z ≡ t .sizes) (d : e .kind ≡ 2 → ⊥) {cause : ℕ}
+    (known : e .kind < 10) (unslotted : slotted (e .kind) ≡ false) {k : ℕ}
+    (pk : Placed (e .line) (e .node) k) {z : Sizes} (hz : z ≡ t .sizes) (d : e .kind ≡ 2 → ⊥) {cause : ℕ}
     (hc : cause ≡ cellRefusal z e (e .kind) (getD (t .cells) k zeroCell)) (caused : cause ≡ 0) (late : 7 ≤ e .kind) where
   inside : (e .line < t .sizes .lines) × (e .node ≤ t .sizes .caches)
-  inside = within t sized w e tags tagged slots known unslotted hb hn pk hz d hc caused
-
-  -- the bytes are the event's line and node
-  line-is : b ≡ e .line
-  line-is =
-      let zs = well-sizes t w in
-      let i = inside in
-      hb .same (omega arith)
-
-  node-is : n ≡ e .node
-  node-is =
-      let zs = well-sizes t w in
-      let i = inside in
-      hn .same (omega arith)
+  inside = within t sized w e tags tagged slots known unslotted pk hz d hc caused
 
   -- the rows after the cause
   number-is : refusal t e ≡ given (row 17 (not (unborne t (e .line) (next (serialAt t (e .line))))) ∷ row 18 (copyless (cellAt t (e .line))) ∷ [])
   unfolding cellRefusal numbered
   number-is =
-      let c = sym (cell-refusal-is t sized w e tags tagged slots known unslotted hb hn pk hz d hc) ∙ caused in
+      let c = sym (cell-refusal-is t sized w e tags tagged slots known unslotted pk hz d hc) ∙ caused in
       timeout-number t e w (omega arith) late ∙ given-onto (cellRows (t .sizes) e (e .kind) (cellOf t e) []) _ refl ∙ rw c
 
-  module _ {l : ℕ} (hl : Within 16 b l) {q : Serial} (hq : getD (t .serials) l (record { 0 = 0 }) .0 < 4 → q .0 ≡ next (getD (t .serials) l (record { 0 = 0 }) .0))
+  module _ {l : ℕ} (hl : Within 16 (e .line) l) {q : Serial} (hq : getD (t .serials) l (record { 0 = 0 }) .0 < 4 → q .0 ≡ next (getD (t .serials) l (record { 0 = 0 }) .0))
       {nine : List Cell} (hnine : Copied (t .cells) l nine)
-      {tag : ℕ} (htag : tag ≡ tagOf Tokens b (q .0)) {free : Bool} (hfree : free ≡ absent tags tag)
+      {tag : ℕ} (htag : tag ≡ tagOf Tokens l (q .0)) {free : Bool} (hfree : free ≡ absent tags tag)
       {number : ℕ} (hm : number ≡ renewalRefusal (not free) nine) where
     row-is : l ≡ e .line
     row-is =
         let zs = well-sizes t w in
         let i = inside in
-        let h = line-is in
-        hl .same (omega arith) ∙ h
+        hl .same (omega arith)
 
     serial-is : q .0 ≡ next (serialAt t (e .line))
     unfolding serialAt
@@ -90,7 +76,7 @@ module _ (t : State) (sized : Sized t) (w : wellFormed t ≡ true) (e : Event) (
     free-is : free ≡ unborne t (e .line) (next (serialAt t (e .line)))
     free-is =
         let i = inside in
-        hfree ∙ rw (htag, line-is, serial-is) (absent-is t tagged w (e .line) (next (serialAt t (e .line))) (next-small (serialAt t (e .line)) (well-serial t w (e .line) (i .0))))
+        hfree ∙ rw (htag, row-is, serial-is) (absent-is t tagged w (e .line) (next (serialAt t (e .line))) (next-small (serialAt t (e .line)) (well-serial t w (e .line) (i .0))))
 
     renewal-number : refusal t e ≡ number
     unfolding renewalRefusal
@@ -113,17 +99,17 @@ module _ (t : State) (sized : Sized t) (w : wellFormed t ≡ true) (e : Event) (
         (omega arith)
         late
 
-    cells-are : (total : ℕ) → fillTo 9 (l * 9) (afterRecreation total n (wordFor (nth nine)) (nth nine)) (t .cells)
+    cells-are : (total : ℕ) → fillTo 9 (l * 9) (afterRecreation total (e .node) (wordFor (nth nine)) (nth nine)) (t .cells)
         ≡ fillTo 9 (e .line * 9) (afterRecreation total (e .node) (wordFor (cellAt t (e .line))) (cellAt t (e .line))) (t .cells)
     cells-are total =
-        rw (row-is, node-is, word-same {f = nth nine} {g = cellAt t (e .line)} nine-is)
+        rw (row-is, word-same {f = nth nine} {g = cellAt t (e .line)} nine-is)
         (fill-same 9 (e .line * 9) (t .cells) (after-same {f = nth nine} {g = cellAt t (e .line)} nine-is total (e .node) (wordFor (cellAt t (e .line)))))
 
     serials-are : set (t .serials) l q ≡ set (t .serials) (e .line) (serialOf (next (serialAt t (e .line))))
     serials-are = ap₂ (set (t .serials)) row-is (ap serialOf serial-is)
 
     pub renewal-turn : number ≡ 0 → {word : ℕ} {to : ℕ} {u : State} {a : Answer} → word ≡ wordFor (nth nine) → to ≡ 9
-        → u ≡ withCells t (fillTo to (l * 9) (λ j. renewedOf (eqb j n) (z .total .0) word (nth nine j)) (t .cells)) → a ≡ answer number 0 64
+        → u ≡ withCells t (fillTo to (l * 9) (λ j. renewedOf (eqb j (e .node)) (z .total .0) word (nth nine j)) (t .cells)) → a ≡ answer number 0 64
         → Turned t e (record { sizes = u .sizes; serials = set (u .serials) l q; cells = u .cells; pool = u .pool }) a tags
     unfolding recreateOf withSerial afterRecreation renewedOf
     renewal-turn g hword all hu ha =

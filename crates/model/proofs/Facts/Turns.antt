@@ -164,14 +164,12 @@ module _ (t : State) (sized : Sized t) (w : wellFormed t ≡ true) (e : Event) (
           (simp length-set slots)
 
   module _ (known : e .kind < 10) (unslotted : slotted (e .kind) ≡ false) where
-    module _ {k : ℕ} {b n : ℕ} (hb : Within 256 (e .line) b) (hn : Within 256 (e .node) n) (pk : Placed b n k) where
+    module _ {k : ℕ} (pk : Placed (e .line) (e .node) k) where
       -- the cell that is loaded is the one that the event names, where there is one
       pub loaded : e .line < t .sizes .lines → e .node ≤ t .sizes .caches → k ≡ e .line * 9 + e .node
       loaded l c =
           let zs = well-sizes t w in
-          let x : b ≡ e .line = hb .same (omega arith) in
-          let y : n ≡ e .node = hn .same (omega arith) in
-          pk .same (omega arith) (omega arith) ∙ rw (x, y)
+          pk .same (omega arith) (omega arith)
 
       pub named : e .line < t .sizes .lines → e .node ≤ t .sizes .caches → getD (t .cells) k zeroCell ≡ cellOf t e
       unfolding cellAt

@@ -21,16 +21,16 @@ use Rattle.model.proofs.runs.run.Statement.{statement}
 use Rattle.model.proofs.runs.run.Tie as tie
 
 abbrev Inv-loop2 : tie.InvT-loop2
-Inv-loop2 n events answers t z tags i at kind line node k l q number first nine₀ from₀ nine from = (from ≤ 9) × (length nine ≡ 9) × ((j : ℕ) → j < from → nth nine j ≡ getD (t .cells) (first + j) zeroCell)
+Inv-loop2 n events answers t z tags i at e kind k l q number first nine₀ from₀ nine from = (from ≤ 9) × (length nine ≡ 9) × ((j : ℕ) → j < from → nth nine j ≡ getD (t .cells) (first + j) zeroCell)
 
 abbrev μ-loop2 : tie.MeasureT-loop2
-μ-loop2 n events answers t z tags i at kind line node k l q number first nine₀ from₀ nine from = 9 - from
+μ-loop2 n events answers t z tags i at e kind k l q number first nine₀ from₀ nine from = 9 - from
 
 abbrev Inv-loop3 : tie.InvT-loop3
-Inv-loop3 n events answers t₀ z tags i at kind said line node k l number first nine from next free late total word chosen to₀ t to = (to ≤ 9) × (t ≡ withCells t₀ (fillTo to first (λ j. renewedOf (eqb j chosen) (total .0) word (nth nine j)) (t₀ .cells)))
+Inv-loop3 n events answers t₀ z tags i at kind said k l number first nine from next free late total word chosen to₀ t to = (to ≤ 9) × (t ≡ withCells t₀ (fillTo to first (λ j. renewedOf (eqb j chosen) (total .0) word (nth nine j)) (t₀ .cells)))
 
 abbrev μ-loop3 : tie.MeasureT-loop3
-μ-loop3 n events answers t₀ z tags i at kind said line node k l number first nine from next free late total word chosen to₀ t to = 9 - to
+μ-loop3 n events answers t₀ z tags i at kind said k l number first nine from next free late total word chosen to₀ t to = 9 - to
 
 abbrev Inv-loop : tie.InvT-loop
 Inv-loop n events answers₀ t₀ z tags₀ i₀ answers t tags i = Running n events answers₀ t₀ z answers t tags i
@@ -83,8 +83,17 @@ mul-m c = search needs
 element-copy-out-m : tie.Need-element-copy-out-m Inv-loop2 μ-loop2 Inv-loop3 μ-loop3 Inv-loop μ-loop
 element-copy-out-m c = slot-near _ _ (c .before .before .before .slot-refusal .ensures) (c .before .if3 .taken)
 
+cast-place : tie.Need-cast-place Inv-loop2 μ-loop2 Inv-loop3 μ-loop3 Inv-loop μ-loop
+cast-place c = search needs
+
+cast-place-2 : tie.Need-cast-place-2 Inv-loop2 μ-loop2 Inv-loop3 μ-loop3 Inv-loop μ-loop
+cast-place-2 c = search needs
+
 place-requires : tie.Need-place-requires Inv-loop2 μ-loop2 Inv-loop3 μ-loop3 Inv-loop μ-loop
 place-requires c κs = search needs
+
+cast-row : tie.Need-cast-row Inv-loop2 μ-loop2 Inv-loop3 μ-loop3 Inv-loop μ-loop
+cast-row c = search needs
 
 row-requires : tie.Need-row-requires Inv-loop2 μ-loop2 Inv-loop3 μ-loop3 Inv-loop μ-loop
 row-requires c κs = search needs
@@ -99,7 +108,7 @@ element-copy-out-x : tie.Need-element-copy-out-x Inv-loop2 μ-loop2 Inv-loop3 μ
 element-copy-out-x c = search needs
 
 arrived-requires : tie.Need-arrived-requires Inv-loop2 μ-loop2 Inv-loop3 μ-loop3 Inv-loop μ-loop
-arrived-requires c κs = arrivable _ (c .before .before .before .before .before .before .before .before .before .before .before .before .before .before .before .before .before .loop .inv .well) _ (slot-near _ _ (c .before .before .before .before .before .before .before .before .before .slot-refusal .ensures) (c .before .before .before .before .before .before .before .if3 .taken)) (c .before .before .before .before .place .ensures)
+arrived-requires c κs = arrivable _ (c .before .before .before .before .before .before .before .before .before .before .before .before .before .before .before .before .before .before .before .before .loop .inv .well) _ (slot-near _ _ (c .before .before .before .before .before .before .before .before .before .before .before .before .slot-refusal .ensures) (c .before .before .before .before .before .before .before .before .before .before .if3 .taken)) (c .before .before .before .before .before .place .ensures)
 
 mul-cell : tie.Need-mul-cell Inv-loop2 μ-loop2 Inv-loop3 μ-loop3 Inv-loop μ-loop
 mul-cell c = search needs
@@ -110,26 +119,20 @@ element-set-from-cell c = search needs
 reply-requires : tie.Need-reply-requires Inv-loop2 μ-loop2 Inv-loop3 μ-loop3 Inv-loop μ-loop
 reply-requires c κs = search needs
 
-mul-t59 : tie.Need-mul-t59 Inv-loop2 μ-loop2 Inv-loop3 μ-loop3 Inv-loop μ-loop
-mul-t59 c = omega (arith, slot-near _ _ (c .before .before .before .before .before .before .before .before .before .before .before .before .slot-refusal .ensures) (c .before .before .before .before .before .before .before .before .before .before .if3 .taken))
+mul-t57 : tie.Need-mul-t57 Inv-loop2 μ-loop2 Inv-loop3 μ-loop3 Inv-loop μ-loop
+mul-t57 c = omega (arith, slot-near _ _ (c .before .before .before .before .before .before .before .before .before .before .before .before .before .before .before .slot-refusal .ensures) (c .before .before .before .before .before .before .before .before .before .before .before .before .before .if3 .taken))
 
 element-set-from-t : tie.Need-element-set-from-t Inv-loop2 μ-loop2 Inv-loop3 μ-loop3 Inv-loop μ-loop
-element-set-from-t c = slot-near _ _ (c .before .before .before .before .before .before .before .before .before .before .before .before .slot-refusal .ensures) (c .before .before .before .before .before .before .before .before .before .before .if3 .taken)
+element-set-from-t c = slot-near _ _ (c .before .before .before .before .before .before .before .before .before .before .before .before .before .before .before .slot-refusal .ensures) (c .before .before .before .before .before .before .before .before .before .before .before .before .before .if3 .taken)
 
 tag-requires : tie.Need-tag-requires Inv-loop2 μ-loop2 Inv-loop3 μ-loop3 Inv-loop μ-loop
 tag-requires c κs = search needs
 
 mul-tags : tie.Need-mul-tags Inv-loop2 μ-loop2 Inv-loop3 μ-loop3 Inv-loop μ-loop
-mul-tags c = omega (arith, slot-near _ _ (c .before .before .before .before .before .before .before .before .before .before .before .before .before .slot-refusal .ensures) (c .before .before .before .before .before .before .before .before .before .before .before .if3 .taken))
+mul-tags c = omega (arith, slot-near _ _ (c .before .before .before .before .before .before .before .before .before .before .before .before .before .before .before .before .slot-refusal .ensures) (c .before .before .before .before .before .before .before .before .before .before .before .before .before .before .if3 .taken))
 
 array-write-tags : tie.Need-array-write-tags Inv-loop2 μ-loop2 Inv-loop3 μ-loop3 Inv-loop μ-loop
-array-write-tags c = slot-near _ _ (c .before .before .before .before .before .before .before .before .before .before .before .before .before .slot-refusal .ensures) (c .before .before .before .before .before .before .before .before .before .before .before .if3 .taken)
-
-byte-requires : tie.Need-byte-requires Inv-loop2 μ-loop2 Inv-loop3 μ-loop3 Inv-loop μ-loop
-byte-requires c κs = search needs
-
-byte-requires-2 : tie.Need-byte-requires-2 Inv-loop2 μ-loop2 Inv-loop3 μ-loop3 Inv-loop μ-loop
-byte-requires-2 c κs = search needs
+array-write-tags c = slot-near _ _ (c .before .before .before .before .before .before .before .before .before .before .before .before .before .before .before .before .slot-refusal .ensures) (c .before .before .before .before .before .before .before .before .before .before .before .before .before .before .if3 .taken)
 
 place-requires-2 : tie.Need-place-requires-2 Inv-loop2 μ-loop2 Inv-loop3 μ-loop3 Inv-loop μ-loop
 place-requires-2 c κs = search needs
@@ -156,22 +159,25 @@ answer-requires-3 : tie.Need-answer-requires-3 Inv-loop2 μ-loop2 Inv-loop3 μ-l
 answer-requires-3 c κs = search needs
 
 sent-cell-requires : tie.Need-sent-cell-requires Inv-loop2 μ-loop2 Inv-loop3 μ-loop3 Inv-loop μ-loop
-sent-cell-requires c κs = sendable _ (c .before .before .before .before .before .before .before .before .before .before .before .before .before .before .before .before .before .before .loop .inv .well) _ _ _ (c .before .before .before .before .before .before .before .before .before .before .before .before .before .before .before .before .before .before .loop .inv .sizes) (c .before .before .send-refusal .ensures) (c .if5 .taken) .amount
+sent-cell-requires c κs = sendable _ (c .before .before .before .before .before .before .before .before .before .before .before .before .before .before .before .before .loop .inv .well) _ _ _ (c .before .before .before .before .before .before .before .before .before .before .before .before .before .before .before .before .loop .inv .sizes) (c .before .before .send-refusal .ensures) (c .if5 .taken) .amount
 
-mul-t87 : tie.Need-mul-t87 Inv-loop2 μ-loop2 Inv-loop3 μ-loop3 Inv-loop μ-loop
-mul-t87 c = search needs
+mul-t86 : tie.Need-mul-t86 Inv-loop2 μ-loop2 Inv-loop3 μ-loop3 Inv-loop μ-loop
+mul-t86 c = search needs
 
 element-set-from-t-2 : tie.Need-element-set-from-t-2 Inv-loop2 μ-loop2 Inv-loop3 μ-loop3 Inv-loop μ-loop
 element-set-from-t-2 c = search needs
 
 sent-message-requires : tie.Need-sent-message-requires Inv-loop2 μ-loop2 Inv-loop3 μ-loop3 Inv-loop μ-loop
-sent-message-requires c κs = sendable _ (c .before .before .before .before .before .before .before .before .before .before .before .before .before .before .before .before .before .before .before .loop .inv .well) _ _ _ (c .before .before .before .before .before .before .before .before .before .before .before .before .before .before .before .before .before .before .before .loop .inv .sizes) (c .before .before .before .send-refusal .ensures) (c .before .if5 .taken)
+sent-message-requires c κs = sendable _ (c .before .before .before .before .before .before .before .before .before .before .before .before .before .before .before .before .before .loop .inv .well) _ _ _ (c .before .before .before .before .before .before .before .before .before .before .before .before .before .before .before .before .before .loop .inv .sizes) (c .before .before .before .send-refusal .ensures) (c .before .if5 .taken)
 
-mul-t87-2 : tie.Need-mul-t87-2 Inv-loop2 μ-loop2 Inv-loop3 μ-loop3 Inv-loop μ-loop
-mul-t87-2 c = search needs
+mul-t86-2 : tie.Need-mul-t86-2 Inv-loop2 μ-loop2 Inv-loop3 μ-loop3 Inv-loop μ-loop
+mul-t86-2 c = search needs
 
 element-set-from-t-3 : tie.Need-element-set-from-t-3 Inv-loop2 μ-loop2 Inv-loop3 μ-loop3 Inv-loop μ-loop
 element-set-from-t-3 c = slot-found _ _ _ _ (c .before .before .before .before .send-refusal .ensures) (c .before .before .if5 .taken) (c .before .before .before .before .before .lowest-free .ensures .0)
+
+cast-tag : tie.Need-cast-tag Inv-loop2 μ-loop2 Inv-loop3 μ-loop3 Inv-loop μ-loop
+cast-tag c = search needs
 
 tag-requires-2 : tie.Need-tag-requires-2 Inv-loop2 μ-loop2 Inv-loop3 μ-loop3 Inv-loop μ-loop
 tag-requires-2 c κs = search needs
@@ -240,10 +246,13 @@ loop2-less : tie.Need-loop2-less Inv-loop2 μ-loop2 Inv-loop3 μ-loop3 Inv-loop 
 loop2-less c = search needs
 
 loop2-again : tie.Need-loop2-again Inv-loop2 μ-loop2 Inv-loop3 μ-loop3 Inv-loop μ-loop
-loop2-again c = let w = c .before .before .loop2 in (omega arith, simp length-set (w .inv .1), table-more zeroCell (λ j x. x ≡ getD (c .before .before .before .before .before .before .before .before .before .before .before .before .before .before .before .before .before .before .before .before .before .loop .t .cells) (c .before .before .before .before .before .before .before .before .before .before .before .row2 .result * 9 + j) zeroCell) (w .nine) (w .from) _ (omega (arith, w .inv)) (w .inv .2) refl)
+loop2-again c = let w = c .before .before .loop2 in (omega arith, simp length-set (w .inv .1), table-more zeroCell (λ j x. x ≡ getD (c .before .before .before .before .before .before .before .before .before .before .before .before .before .before .before .before .before .before .before .loop .t .cells) (c .before .before .before .before .before .before .before .before .before .before .before .row2 .result * 9 + j) zeroCell) (w .nine) (w .from) _ (omega (arith, w .inv)) (w .inv .2) refl)
 
 next-serial-requires : tie.Need-next-serial-requires Inv-loop2 μ-loop2 Inv-loop3 μ-loop3 Inv-loop μ-loop
 next-serial-requires c κs = search needs
+
+cast-tag-2 : tie.Need-cast-tag-2 Inv-loop2 μ-loop2 Inv-loop3 μ-loop3 Inv-loop μ-loop
+cast-tag-2 c = search needs
 
 tag-requires-3 : tie.Need-tag-requires-3 Inv-loop2 μ-loop2 Inv-loop3 μ-loop3 Inv-loop μ-loop
 tag-requires-3 c κs = search needs
@@ -261,10 +270,10 @@ word-for-requires : tie.Need-word-for-requires Inv-loop2 μ-loop2 Inv-loop3 μ-l
 word-for-requires c κs = search needs
 
 cast-chosen : tie.Need-cast-chosen Inv-loop2 μ-loop2 Inv-loop3 μ-loop3 Inv-loop μ-loop
-cast-chosen c = omega (arith, c .before .before .before .before .before .before .before .before .before .before .before .before .before .before .before .before .before .before .before .before .before .byte2 .ensures .below)
+cast-chosen c = search needs
 
 loop3-holds : tie.Need-loop3-holds Inv-loop2 μ-loop2 Inv-loop3 μ-loop3 Inv-loop μ-loop
-loop3-holds c = (omega arith, ap (withCells (c .before .before .before .before .before .before .before .before .before .before .before .before .before .before .before .before .before .before .before .before .before .before .before .before .before .before .before .before .before .loop .t)) (fill-none _ _ _))
+loop3-holds c = (omega arith, ap (withCells (c .before .before .before .before .before .before .before .before .before .before .before .before .before .before .before .before .before .before .before .before .before .before .before .before .before .before .before .before .loop .t)) (fill-none _ _ _))
 
 mul-c-2 : tie.Need-mul-c-2 Inv-loop2 μ-loop2 Inv-loop3 μ-loop3 Inv-loop μ-loop
 mul-c-2 c = search needs
@@ -275,14 +284,14 @@ array-copy-out-c c = search needs
 renewed-requires : tie.Need-renewed-requires Inv-loop2 μ-loop2 Inv-loop3 μ-loop3 Inv-loop μ-loop
 renewed-requires c κs = search needs
 
-add-t120 : tie.Need-add-t120 Inv-loop2 μ-loop2 Inv-loop3 μ-loop3 Inv-loop μ-loop
-add-t120 c = omega (arith, c .before .before .before .before .before .before .before .before .before .before .before .before .before .before .before .before .before .before .before .before .before .before .before .row2 .ensures .below)
+add-t121 : tie.Need-add-t121 Inv-loop2 μ-loop2 Inv-loop3 μ-loop3 Inv-loop μ-loop
+add-t121 c = omega (arith, c .before .before .before .before .before .before .before .before .before .before .before .before .before .before .before .before .before .before .before .before .before .before .before .before .row2 .ensures .below)
 
-mul-t124 : tie.Need-mul-t124 Inv-loop2 μ-loop2 Inv-loop3 μ-loop3 Inv-loop μ-loop
-mul-t124 c = omega (arith, c .before .before .before .before .before .before .before .before .before .before .before .before .before .before .before .before .before .before .before .before .before .before .before .row2 .ensures .below)
+mul-t125 : tie.Need-mul-t125 Inv-loop2 μ-loop2 Inv-loop3 μ-loop3 Inv-loop μ-loop
+mul-t125 c = omega (arith, c .before .before .before .before .before .before .before .before .before .before .before .before .before .before .before .before .before .before .before .before .before .before .before .before .row2 .ensures .below)
 
 element-set-from-t-5 : tie.Need-element-set-from-t-5 Inv-loop2 μ-loop2 Inv-loop3 μ-loop3 Inv-loop μ-loop
-element-set-from-t-5 c = omega (arith, c .before .before .before .before .before .before .before .before .before .before .before .before .before .before .before .before .before .before .before .before .before .before .before .row2 .ensures .below)
+element-set-from-t-5 c = omega (arith, c .before .before .before .before .before .before .before .before .before .before .before .before .before .before .before .before .before .before .before .before .before .before .before .before .row2 .ensures .below)
 
 add-to : tie.Need-add-to Inv-loop2 μ-loop2 Inv-loop3 μ-loop3 Inv-loop μ-loop
 add-to c = search needs
@@ -294,7 +303,7 @@ loop3-again : tie.Need-loop3-again Inv-loop2 μ-loop2 Inv-loop3 μ-loop3 Inv-loo
 loop3-again c = let w = c .before .before .before .loop3 in (omega arith, fill-cells _ (w .to) _ _ (w .inv .1) (c .renewed .ensures))
 
 element-set-from-next : tie.Need-element-set-from-next Inv-loop2 μ-loop2 Inv-loop3 μ-loop3 Inv-loop μ-loop
-element-set-from-next c = c .before .before .before .before .before .before .before .before .before .before .before .before .before .before .before .before .before .before .before .before .before .row2 .ensures .below
+element-set-from-next c = c .before .before .before .before .before .before .before .before .before .before .before .before .before .before .before .before .before .before .before .before .before .before .row2 .ensures .below
 
 mul-put : tie.Need-mul-put Inv-loop2 μ-loop2 Inv-loop3 μ-loop3 Inv-loop μ-loop
 mul-put c = search needs
@@ -318,37 +327,37 @@ joined c =
     let tags = c .before .before .before .before .before .loop .tags in
     ⊎-elim
     (λ w.
-    same-turn (w .18) (w .19) (w .20)
-    (slot-turn t (r .sized) (r .well) e tags (r .tagged) (r .slots) (w .0 .taken) (w .1 .taken) (w .3 .ensures) (w .5 .taken) (w .8 .ensures) (w .9 .ensures) (r .sizes) (w .13 .ensures) (w .15 .ensures) (w .16 .ensures)))
+    same-turn (w .21) (w .22) (w .23)
+    (slot-turn t (r .sized) (r .well) e tags (r .tagged) (r .slots) (w .0 .taken) (w .1 .taken) (w .3 .ensures) (w .5 .taken) (w .10 .ensures) (w .12 .ensures) (r .sizes) (w .16 .ensures) (w .18 .ensures) (w .19 .ensures)))
     (⊎-elim
     (λ w. same-turn (w .6) (w .7) (w .8) (slot-refused t (r .sized) (r .well) e tags (r .tagged) (r .slots) (w .0 .taken) (w .1 .taken) (w .3 .ensures) (w .5 .left) (w .4 .ensures)))
     (⊎-elim
     (λ w.
-    same-turn (w .18) (w .19) (w .20)
-    (send-turn t (r .sized) (r .well) e tags (r .tagged) (r .slots) (w .0 .taken) (w .1 .left) (w .2 .ensures) (w .3 .ensures) (w .4 .ensures) (r .sizes) (w .8 .taken) (w .10 .ensures .1) (w .11 .ensures) (w .13 .taken)
-    (w .10 .ensures .0) (w .5 .ensures) (w .14 .ensures) (w .15 .ensures) (w .16 .ensures) (w .17 .ensures)))
-    (⊎-elim
-    (λ w.
-    same-turn (w .14) (w .15) (w .16)
-    (send-refused t (r .sized) (r .well) e tags (r .tagged) (r .slots) (w .0 .taken) (w .1 .left) (w .2 .ensures) (w .3 .ensures) (w .4 .ensures) (r .sizes) (w .8 .taken) (w .10 .ensures .1) (w .11 .ensures) (w .13 .left) (w .12 .ensures)))
-    (⊎-elim
-    (λ w.
     same-turn (w .16) (w .17) (w .18)
-    (touch-turn t (r .sized) (r .well) e tags (r .tagged) (r .slots) (w .0 .taken) (w .1 .left) (w .2 .ensures) (w .3 .ensures) (w .4 .ensures) (r .sizes) (w .8 .left) (w .9 .ensures) (w .11 .taken) (w .12 .taken) (w .13 .ensures) (w .14 .ensures) (w .15 .ensures)))
-    (⊎-elim
-    (λ w.
-    same-turn (w .27) (w .28) (w .29)
-    (renewal-turn t (r .sized) (r .well) e tags (r .tagged) (r .slots) (w .0 .taken) (w .1 .left) (w .2 .ensures) (w .3 .ensures) (w .4 .ensures) (r .sizes) (w .8 .left) (w .9 .ensures) (w .11 .taken) (w .12 .left) (w .5 .ensures) (w .16 .ensures)
-    (record { same = λ j h. w .14 .inv .2 j (omega (arith, w .15 .left)) }) (w .18 .ensures) (w .19 .ensures) (w .20 .ensures) (w .22 .taken) (w .24 .ensures) (omega (arith, w .25 .inv .0, w .26 .left)) (w .25 .inv .1) (w .21 .ensures)))
-    (⊎-elim
-    (λ w.
-    same-turn (w .23) (w .24) (w .25)
-    (renewal-refused t (r .sized) (r .well) e tags (r .tagged) (r .slots) (w .0 .taken) (w .1 .left) (w .2 .ensures) (w .3 .ensures) (w .4 .ensures) (r .sizes) (w .8 .left) (w .9 .ensures) (w .11 .taken) (w .12 .left) (w .5 .ensures) (w .16 .ensures)
-    (record { same = λ j h. w .14 .inv .2 j (omega (arith, w .15 .left)) }) (w .18 .ensures) (w .19 .ensures) (w .20 .ensures) (w .22 .left) (w .21 .ensures)))
+    (send-turn t (r .sized) (r .well) e tags (r .tagged) (r .slots) (w .0 .taken) (w .1 .left) (w .2 .ensures) (r .sizes) (w .6 .taken) (w .8 .ensures .1) (w .9 .ensures) (w .11 .taken)
+    (w .8 .ensures .0) (w .3 .ensures) (w .12 .ensures) (w .13 .ensures) (w .14 .ensures) (w .15 .ensures)))
     (⊎-elim
     (λ w.
     same-turn (w .12) (w .13) (w .14)
-    (cell-refused t (r .sized) (r .well) e tags (r .tagged) (r .slots) (w .0 .taken) (w .1 .left) (w .2 .ensures) (w .3 .ensures) (w .4 .ensures) (r .sizes) (w .8 .left) (w .9 .ensures) (w .11 .left) (w .10 .ensures)))
+    (send-refused t (r .sized) (r .well) e tags (r .tagged) (r .slots) (w .0 .taken) (w .1 .left) (w .2 .ensures) (r .sizes) (w .6 .taken) (w .8 .ensures .1) (w .9 .ensures) (w .11 .left) (w .10 .ensures)))
+    (⊎-elim
+    (λ w.
+    same-turn (w .14) (w .15) (w .16)
+    (touch-turn t (r .sized) (r .well) e tags (r .tagged) (r .slots) (w .0 .taken) (w .1 .left) (w .2 .ensures) (r .sizes) (w .6 .left) (w .7 .ensures) (w .9 .taken) (w .10 .taken) (w .11 .ensures) (w .12 .ensures) (w .13 .ensures)))
+    (⊎-elim
+    (λ w.
+    same-turn (w .26) (w .27) (w .28)
+    (renewal-turn t (r .sized) (r .well) e tags (r .tagged) (r .slots) (w .0 .taken) (w .1 .left) (w .2 .ensures) (r .sizes) (w .6 .left) (w .7 .ensures) (w .9 .taken) (w .10 .left) (w .3 .ensures) (w .14 .ensures)
+    (record { same = λ j h. w .12 .inv .2 j (omega (arith, w .13 .left)) }) (w .16 .ensures) (w .17 .ensures) (w .18 .ensures) (w .20 .taken) (w .22 .ensures) (omega (arith, w .24 .inv .0, w .25 .left)) (w .24 .inv .1) (w .19 .ensures)))
+    (⊎-elim
+    (λ w.
+    same-turn (w .21) (w .22) (w .23)
+    (renewal-refused t (r .sized) (r .well) e tags (r .tagged) (r .slots) (w .0 .taken) (w .1 .left) (w .2 .ensures) (r .sizes) (w .6 .left) (w .7 .ensures) (w .9 .taken) (w .10 .left) (w .3 .ensures) (w .14 .ensures)
+    (record { same = λ j h. w .12 .inv .2 j (omega (arith, w .13 .left)) }) (w .16 .ensures) (w .17 .ensures) (w .18 .ensures) (w .20 .left) (w .19 .ensures)))
+    (⊎-elim
+    (λ w.
+    same-turn (w .10) (w .11) (w .12)
+    (cell-refused t (r .sized) (r .well) e tags (r .tagged) (r .slots) (w .0 .taken) (w .1 .left) (w .2 .ensures) (r .sizes) (w .6 .left) (w .7 .ensures) (w .9 .left) (w .8 .ensures)))
     (λ w. same-turn (w .1) (w .2) (w .3) (above-turn t (r .sized) (r .well) e tags (r .tagged) (r .slots) (w .0 .left) (c .before .answer .ensures))))))))))
     (c .if1 .came)
 
@@ -386,7 +395,10 @@ run-spec =
     cast-j
     mul-m
     element-copy-out-m
+    cast-place
+    cast-place-2
     place-requires
+    cast-row
     row-requires
     element-copy-out-q
     mul-x
@@ -395,13 +407,11 @@ run-spec =
     mul-cell
     element-set-from-cell
     reply-requires
-    mul-t59
+    mul-t57
     element-set-from-t
     tag-requires
     mul-tags
     array-write-tags
-    byte-requires
-    byte-requires-2
     place-requires-2
     row-requires-2
     mul-x-2
@@ -411,11 +421,12 @@ run-spec =
     send-refusal-requires
     answer-requires-3
     sent-cell-requires
-    mul-t87
+    mul-t86
     element-set-from-t-2
     sent-message-requires
-    mul-t87-2
+    mul-t86-2
     element-set-from-t-3
+    cast-tag
     tag-requires-2
     mul-tags-2
     array-write-tags-2
@@ -440,6 +451,7 @@ run-spec =
     loop2-less
     loop2-again
     next-serial-requires
+    cast-tag-2
     tag-requires-3
     absent-requires
     renewal-refusal-requires
@@ -450,8 +462,8 @@ run-spec =
     mul-c-2
     array-copy-out-c
     renewed-requires
-    add-t120
-    mul-t124
+    add-t121
+    mul-t125
     element-set-from-t-5
     add-to
     loop3-less
