@@ -3,7 +3,7 @@ use Prim.Native.Nat.{ℕ, _≤_, _<_}
 use mathlib.Core.Path.{_≡_, refl, sym, ap}
 use mathlib.Core.Bool.{true, false, not}
 use native.Mathlib.Omega.{arith}
-use borrow.Author.Tests.{ltb-true, leb-true, eqb-true, eqb-false, not-true, lt-ltb, le-leb, ne-eqb}
+use borrow.Author.Tests.{ltb-true, leb-true, eqb-false, not-true, lt-ltb, le-leb, ne-eqb}
 use lib.Dec.{eqb}
 use Rattle.model.specs.Types.{MessageKind, Free, Tokens, OwnershipAck, DeletionAck, Message, Sizes}
 use Rattle.model.specs.Tools.{every}
@@ -70,26 +70,6 @@ unfolding messageZero ackFine
 tokened (empty _ h) = let e = every-all _ h in search not-bit-le
 tokened {m = m} (token _ _ t) = let o = bit-small (m .owner) in let f = bit-small (m .full) in omega arith
 tokened (bare _ _ h) = let e = every-all _ h in search not-bit-le
-
--- a free slot is all zero
-all-zero : (m : Message) → m .kind ≡ Free → messageZero m ≡ true → m ≡ freeMessage
-unfolding messageZero
-all-zero m k h =
-    let e = every-all _ h in
-    let a = eqb-true (m .line) 0 (e .0) in
-    let b = eqb-true (m .source) 0 (e .1 .0) in
-    let c = eqb-true (m .destination) 0 (e .1 .1 .0) in
-    let d = eqb-true (m .serial .0) 0 (e .1 .1 .1 .0) in
-    let f = eqb-true (m .tokens .0) 0 (e .1 .1 .1 .1 .0) in
-    let o = not-true (m .owner) (e .1 .1 .1 .1 .1 .0) in
-    let p = not-true (m .full) (e .1 .1 .1 .1 .1 .1 .0) in
-    let w = eqb-true (m .word) 0 (e .1 .1 .1 .1 .1 .1 .1 .0) in
-    rw (k, a, b, c, d, f, o, p, w)
-
-pub is-free : {z : Sizes} (m : Message) → isFree (m .kind) ≡ true → Sort z m (m .kind) → m ≡ freeMessage
-is-free m f (empty e h) = all-zero m e h
-is-free m f (token g _ _) = clash f g
-is-free m f (bare g _ _) = clash f g
 
 module _ (z : Sizes) where
   pub has-tokens : (m : Message) → messageFine z m Tokens ≡ true → TokensOk z m

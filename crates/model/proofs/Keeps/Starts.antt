@@ -12,7 +12,7 @@ use Rattle.model.specs.Types.{Serial}
 use Rattle.model.specs.Tools.{every}
 use Rattle.model.specs.States.{freeMessage, cellAt, slotAt, serialAt, bears}
 use Rattle.model.specs.Cells.{zeroCell}
-use Rattle.model.specs.WellFormed.{sizesFine, serialFine, cellZero, cellFine, counted, held, borne, inCells, inMessages, tokensOf, wellFormed}
+use Rattle.model.specs.WellFormed.{sizesFine, serialFine, cellZero, cellFine, counted, held, borne, inCells, inMessages, tokensOf}
 use Rattle.model.specs.Fresh.{sizes, memoryCell, freshCells, fresh}
 use Rattle.model.proofs.Laws.Bools.{split, by-pick}
 use Rattle.model.proofs.Laws.Sums.{sum-zero}
@@ -21,7 +21,7 @@ use Rattle.model.proofs.Laws.Bears.{bears-free, counts-not}
 use Rattle.model.proofs.Laws.Sole.{Sole, sole-cells, sole-messages}
 use Rattle.model.proofs.Keeps.Cells.{CellOk, ok-cell}
 use Rattle.model.proofs.Keeps.Messages.{fine-free}
-use Rattle.model.proofs.Keeps.Well.{Well, WellIn, well-formed, SizesOk, sizes-ok}
+use Rattle.model.proofs.Keeps.Well.{Well, WellIn, SizesOk, sizes-ok}
 
 module _ (c n : ℕ) (hc : c < 9) where
   length-fresh : (l : ℕ) → length (freshCells l c n) ≡ 144
@@ -144,6 +144,3 @@ module _ (c l n : ℕ) (fine : sizesFine (sizes c l n) ≡ true) where
   pub fresh-well : Well (fresh c l n)
   unfolding fresh
   fresh-well = well-in
-
-  pub fresh-well-formed : wellFormed (fresh c l n) ≡ true
-  fresh-well-formed = well-formed fresh-well

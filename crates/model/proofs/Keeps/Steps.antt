@@ -1,6 +1,6 @@
 -- A step, and so a run, keeps a state well formed, whatever the event. Assumes nothing.
 use Prim.Native.Nat.{ℕ}
-use mathlib.Core.Path.{_≡_, refl, _∙_}
+use mathlib.Core.Path.{_≡_, refl}
 use mathlib.Core.Bool.{true}
 use mathlib.Core.List.{List, [], _∷_}
 use borrow.Author.Tests.{eqb-true}
@@ -20,7 +20,7 @@ use Rattle.model.proofs.Keeps.Changes.{cell-well}
 use Rattle.model.proofs.Keeps.Sends.{send-well}
 use Rattle.model.proofs.Keeps.Arrivals.{Landed, empties, delivers, landed-well}
 use Rattle.model.proofs.Keeps.Renewals.{recreate-well}
-use Rattle.model.proofs.Keeps.Shapes.{step-keeps-sizes, step-keeps-sized}
+use Rattle.model.proofs.Keeps.Shapes.{step-keeps-sized}
 
 module _ {s : State} (z : Sized s) (w : Well s) (e : Event) where
   want-well : (x : Want) → Cached s e → Well (wantOf s e x .state)
@@ -71,16 +71,3 @@ pub run-keeps-well : {s : State} → Sized s → Well s → (es : List Event) �
 unfolding runOf
 run-keeps-well z w [] = w
 run-keeps-well {s} z w (e ∷ es) = run-keeps-well (step-keeps-sized s z e) (step-keeps-well z w e) es
-
-pub run-keeps-well-formed : (s : State) → Sized s → wellFormed s ≡ true → (es : List Event) → wellFormed (runOf s es) ≡ true
-run-keeps-well-formed s z h es = well-formed (run-keeps-well z (well h) es)
-
-pub run-keeps-sized : (s : State) → Sized s → (es : List Event) → Sized (runOf s es)
-unfolding runOf
-run-keeps-sized s z [] = z
-run-keeps-sized s z (e ∷ es) = run-keeps-sized (stepOf s e .state) (step-keeps-sized s z e) es
-
-pub run-keeps-sizes : (s : State) (es : List Event) → runOf s es .sizes ≡ s .sizes
-unfolding runOf
-run-keeps-sizes s [] = refl
-run-keeps-sizes s (e ∷ es) = run-keeps-sizes (stepOf s e .state) es ∙ step-keeps-sizes s e

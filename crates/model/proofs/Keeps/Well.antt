@@ -6,14 +6,14 @@ use native.Mathlib.Omega.{arith}
 use borrow.Author.Tests.{ltb-true, leb-true, lt-ltb, le-leb}
 use lib.Dec.{eqb, leb, ltb}
 use Rattle.model.specs.Types.{Tokens, Sizes, State}
-use Rattle.model.specs.States.{cellAt, slotAt, serialAt, freeMessage}
+use Rattle.model.specs.States.{cellAt, slotAt, serialAt}
 use Rattle.model.specs.WellFormed.{sizesFine, serialFine, cellFine, messageFine, tokensOf, wellFormed}
 use Rattle.model.specs.Refusals.{freeAt}
 use Rattle.model.proofs.Laws.Bools.{split, every-all, all-every}
 use Rattle.model.proofs.Laws.Sums.{all-at, at-all}
 use Rattle.model.proofs.Laws.Changes.{Place}
 use Rattle.model.proofs.Keeps.Cells.{Marks, CellOk, cell-ok, zero-marks}
-use Rattle.model.proofs.Keeps.Messages.{AddressOk, TokensOk, Sort, sort, has-address, has-tokens, is-free}
+use Rattle.model.proofs.Keeps.Messages.{AddressOk, TokensOk, Sort, sort, has-address, has-tokens}
 
 -- well formed at some sizes, as facts; and at the state's own
 pub record WellIn (z : Sizes) (s : State) : Type 0 where
@@ -126,6 +126,3 @@ module _ (s : State) (h : wellFormed s ≡ true) where
 
   pub well-tokens : (i : ℕ) → i < 64 → slotAt s i .kind ≡ Tokens → TokensOk (s .sizes) (slotAt s i)
   well-tokens i l e = slot-tokens (well h) i l e
-
-  pub well-free : (i : ℕ) → i < 64 → freeAt s i ≡ true → slotAt s i ≡ freeMessage
-  well-free i l f = is-free (slotAt s i) f (slot-sort (well h) i l)
