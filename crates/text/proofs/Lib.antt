@@ -5,6 +5,7 @@ pub mod Lines
 pub mod Lengths
 pub mod Runs
 pub mod Takes
+pub mod Plain
 pub mod Stores
 pub mod Decimals
 pub mod Answers

@@ -1,11 +1,11 @@
 -- What the private functions state. Assumes nothing.
-use Prim.Native.Nat.{ℕ, zero, suc, _+_, _-_, _/_, _%_, _<_, _≤_}
+use Prim.Native.Nat.{ℕ, zero, suc, _+_, _-_, _*_, _/_, _%_, _<_, _≤_}
 use mathlib.Core.Path.{_≡_}
-use mathlib.Core.Bool.{Bool, true, cond}
+use mathlib.Core.Bool.{Bool, true, cond, _&&_}
 use mathlib.Core.List.{List, [], _∷_, _++_}
 use mathlib.Core.Option.{Option, none, some}
 use lib.Dec.{eqb}
-use lib.ListN.{length, getD, drop}
+use lib.ListN.{length, getD, drop, set, replicate}
 use Rattle.text.specs.declared.numbers.Run.{Run}
 use Rattle.text.specs.declared.numbers.Number.{Number}
 use Rattle.text.specs.declared.reading.Taken.{Taken}
@@ -55,6 +55,24 @@ pub record Short (s : List ℕ) (from v : ℕ) : Type 0 where
   pub digit : isDigit (getD s from 0) ≡ true
   pub spell : getD s from 0 - 48 ≡ v
   pub tab : getD s (from + 1) 0 ≡ 9
+
+-- a digit stands at a place, and after it the byte that ends its field
+abbrev pub oneDigit : List ℕ → ℕ → ℕ → Bool
+oneDigit s from end = eqb (getD s (from + 1) 0) end && isDigit (getD s from 0)
+
+-- k fields of one digit and a tab each stand from a place on
+unfoldable pub tabbed : ℕ → List ℕ → ℕ → Bool
+tabbed zero s from = true
+tabbed (suc k) s from = tabbed k s from && oneDigit s (from + 2 * k) 9
+
+-- a line of eight fields of one digit each stands at a place
+unfoldable pub plainLine : List ℕ → ℕ → Bool
+plainLine s from = tabbed 7 s from && oneDigit s (from + 14) 10
+
+-- the digits of k such fields, with zeros after them: the last four bits of a digit are its value
+unfoldable pub wordsTo : ℕ → List ℕ → ℕ → List ℕ
+wordsTo zero s from = replicate 8 0
+wordsTo (suc k) s from = set (wordsTo k s from) k (getD s (from + 2 * k) 0 % 16)
 
 -- a line ends here
 abbrev pub atEnd : List ℕ → Bool

@@ -1,9 +1,9 @@
 // One number of a line.
-ghost use Prim.Native.Nat.{_<_, _≤_};
+ghost use Prim.Native.Nat.{_+_, _<_, _≤_};
 ghost use mathlib.Core.Path.{_≡_};
 ghost use lib.ListN.{length};
 ghost use Rattle.text.specs.Reading.{isDigit};
-ghost use Rattle.text.specs.Parts.{Runs, Found, TwoDigits, Short};
+ghost use Rattle.text.specs.Parts.{Runs, Found, TwoDigits, Short, oneDigit};
 
 // Digits: what they spell, the place past them, and the byte there; at the end of input a line feed.
 pub struct Run {
@@ -144,4 +144,12 @@ pub(crate) fn short(s: &[u8], from: usize) -> u32
         return 10;
     }
     (b - 48) as u32
+}
+
+// Whether a digit stands at a place, and after it the byte that ends its field. No branch, so that many are tested at once.
+pub(crate) fn one_digit(s: &[u8], from: usize, end: u8) -> bool
+    requires { ⌜ from + 1 < length (now s) ⌝ }
+    ensures { λ r. ⌜ r ≡ oneDigit (now (s .entry)) from end ⌝ }
+{
+    (s[from + 1] == end) & is_digit(s[from])
 }
