@@ -1,4 +1,5 @@
-// States made by hand, some of which no start reaches, each beside a neighbour: what a step answers, one line for each.
+// States made by hand, some of which no start reaches, each beside a neighbour: what a step answers, one line for each. Then
+// batches of reads at cache 0 with lists of several lengths: number and count, and the answer words, which held 77.
 use model::cells::Cell;
 use model::cells::Want;
 use model::events::Answer;
@@ -56,9 +57,59 @@ fn said(s: State, e: Event) {
     show(r.answer);
 }
 
-fn main() {
+// The number and the count of a batch.
+fn show_batch(number: u32, count: usize) {
+    io::print_decimal(1, number as u64);
+    io::write_all(1, b" ");
+    io::print_decimal(1, count as u64);
+    io::write_all(1, b"\n");
+}
+
+fn words(number: u32, word: u32, slot: u32) -> Answer {
+    Answer { number, word, slot }
+}
+
+// Nine words, which are no multiple of eight: 20.
+fn nine_words(s: State) {
+    let events = [0u32; 9];
+    let mut answers = [77u32; 3];
+    let b = model::batch(s, &events, &mut answers);
+    show_batch(b.number, b.count);
+    show(words(answers[0], answers[1], answers[2]));
+}
+
+// Two events and five answer words: 21.
+fn five_answers(s: State) {
+    let events = [0u32; 16];
+    let mut answers = [77u32; 5];
+    let b = model::batch(s, &events, &mut answers);
+    show_batch(b.number, b.count);
+    show(words(answers[0], answers[1], answers[2]));
+}
+
+// Both: 20.
+fn both(s: State) {
+    let events = [0u32; 17];
+    let mut answers = [77u32; 5];
+    let b = model::batch(s, &events, &mut answers);
+    show_batch(b.number, b.count);
+    show(words(answers[0], answers[1], answers[2]));
+}
+
+// Two events and nine answer words: the last three stay.
+fn two_events(s: State) {
+    let events = [0u32; 16];
+    let mut answers = [77u32; 9];
+    let b = model::batch(s, &events, &mut answers);
+    show_batch(b.number, b.count);
+    show(words(answers[0], answers[1], answers[2]));
+    show(words(answers[3], answers[4], answers[5]));
+    show(words(answers[6], answers[7], answers[8]));
+}
+
+fn steps() {
     let none = cell(0, false, false, Want::Nothing, 0);
-    let idle = cell(0, false, false, Want::Read, 0);
+    let waiting = cell(0, false, false, Want::Read, 0);
     // cache 0 holds all three tokens and the memory none: well formed, the read is done
     said(
         with_two(cell(3, true, false, Want::Nothing, 7), none),
@@ -79,14 +130,26 @@ fn main() {
     );
     // the memory has a want: not well formed
     said(
-        with_two(cell(3, true, false, Want::Nothing, 7), idle),
+        with_two(cell(3, true, false, Want::Nothing, 7), waiting),
         event(0, 0),
     );
     // cache 0 wants to read and the line has a backup at the memory: recreated, and the read gives its word
-    let kept = with_two(idle, cell(0, false, true, Want::Nothing, 9));
+    let kept = with_two(waiting, cell(0, false, true, Want::Nothing, 9));
     said(kept, event(7, 0));
     let after = model::step(kept, event(7, 0));
     said(after.state, event(0, 0));
     // no owner, no valid cell and no backup on the line: 18
-    said(with_two(idle, none), event(7, 0));
+    said(with_two(waiting, none), event(7, 0));
+}
+
+fn main() {
+    steps();
+    let none = cell(0, false, false, Want::Nothing, 0);
+    let held = with_two(cell(3, true, false, Want::Nothing, 7), none);
+    nine_words(held);
+    five_answers(held);
+    both(held);
+    two_events(held);
+    // four tokens where N is three: not well formed, so each event answers 1
+    two_events(with_two(cell(4, true, false, Want::Nothing, 7), none));
 }

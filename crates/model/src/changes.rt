@@ -4,7 +4,7 @@ ghost use Prim.Native.Nat.{_+_, _≤_, _<_};
 ghost use Rattle.model.specs.Types.{Tokens as TokenMessage};
 ghost use Rattle.model.specs.Cells.{fill, received};
 ghost use Rattle.model.specs.Tools.{when};
-ghost use Rattle.model.specs.Effects.{answer as answerOf, ack as ackOf, sentMessage, sentCell};
+ghost use Rattle.model.specs.Effects.{answer as answerOf, sentMessage, sentCell};
 ghost use Rattle.model.specs.Changes.{wantedBy, touchedCell, discarded as discardedOf, ownershipAcked, deletionAcked, arriveBy, arriveOf, lost as lostOf, replyOf};
 ghost use Rattle.model.specs.Needs.{Sendable};
 use crate::cells::Cell;
@@ -47,8 +47,8 @@ fn wanted(kind: u32, want: Want) -> Want
 pub(crate) fn touch(e: Event, x: Cell) -> Cell
     ensures { λ r. ⌜ r ≡ touchedCell e (e .kind) x ⌝ }
 {
-    let now = x.want;
-    let want = wanted(e.kind, now);
+    let before = x.want;
+    let want = wanted(e.kind, before);
     let word = either(e.kind == 1, e.word, x.word);
     let y = x.write(word);
     y.wish(want)

@@ -1,4 +1,5 @@
-// The rules of a well formed state, for a serial, for a cell and for a message.
+// The rules of a well formed state, for a serial, for a cell and for a message. A rule "a needs b" stands as `!a | b`, in the
+// rule's own words; the tests are joined by `&`, which does not branch: nearly always all of them pass.
 ghost use mathlib.Core.Path.{_≡_};
 ghost use Rattle.model.specs.States.{isFree};
 ghost use Rattle.model.specs.Cells.{isNothing};

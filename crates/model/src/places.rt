@@ -1,6 +1,4 @@
 // Where the parts of a state stand. Each place is one of its array whatever the numbers are; a refusal tells of those that are out of range.
-ghost use mathlib.Core.Path.{_≡_};
-ghost use Prim.Native.Nat.{_+_, _*_, _<_};
 ghost use Rattle.model.specs.Places.{Within, Placed};
 
 // The place of a line's serial.

@@ -75,6 +75,7 @@ pub(crate) fn run(s: State, n: usize, events: &[u32], answers: &mut [u32]) -> St
         let at = i * 8;
         let e = decode(&events[at..at + 8]);
         let kind = e.kind;
+        // the answer to a kind above 9
         let mut said = answer(2, 0, 64);
         if kind < 10 {
             if (kind == 3) | (kind == 4) {
@@ -128,6 +129,7 @@ pub(crate) fn run(s: State, n: usize, events: &[u32], answers: &mut [u32]) -> St
                                 from += 1;
                             }
                             let next = next_serial(q);
+                            // every message has the tag of a token message, so acknowledgments are found too
                             let free = absent(&tags, tag(MessageKind::Tokens, l as u8, next));
                             let late = renewal_refusal(!free, nine);
                             said = answer(late, 0, 64);

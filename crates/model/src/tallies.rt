@@ -1,8 +1,8 @@
 // A state is well formed: one pass over its serials, one over its cells, one over its messages.
 // All sixteen lines' sums are kept in one scratch table (request T-07 replaces it by one sum at a time).
 ghost use mathlib.Core.Path.{_≡_};
-ghost use Prim.Native.Nat.{ℕ, _+_, _≤_, _<_};
-ghost use lib.ListN.{length, getD};
+ghost use Prim.Native.Nat.{ℕ, _≤_, _<_};
+ghost use lib.ListN.{getD};
 ghost use lib.Dec.{leb};
 ghost use Rattle.model.specs.Tools.{allTo};
 ghost use Rattle.model.specs.States.{bears as bearsOf};
@@ -94,7 +94,7 @@ fn check_cells(s: State) -> LineSums
 }
 
 // The slot holds a message of the line that bears the serial.
-pub(crate) fn bears(line: u8, q: Serial, m: Message) -> bool
+fn bears(line: u8, q: Serial, m: Message) -> bool
     ensures { λ r. ⌜ r ≡ bearsOf line (q .0) m ⌝ }
 {
     let kind = m.kind;

@@ -6,14 +6,14 @@ ghost use Rattle.text.specs.Reading.{isDigit};
 ghost use Rattle.text.specs.Parts.{Runs, Found, TwoDigits, Short, oneDigit};
 
 // Digits: what they spell, the place past them, and the byte there; at the end of input a line feed.
-pub struct Run {
+struct Run {
     pub value: u64,
     pub end: usize,
     pub after: u8,
 }
 
 // A number, the place past its digits, and the byte there; at the end of input a line feed.
-pub struct Number {
+pub(crate) struct Number {
     pub value: u32,
     pub end: usize,
     pub after: u8,
@@ -25,7 +25,7 @@ fn is_digit(b: u8) -> bool
     (48 <= b) & (b <= 57)
 }
 
-// The digits from a place on, to the tenth of a number: so the value cannot wrap.
+// The digits from a place on. It stops once the value has ten digits, so that the value cannot wrap.
 fn digits(s: &[u8], from: usize) -> Run
     ensures { λ r. ⌜ Runs (now (s .entry)) from r ⌝ }
 {

@@ -1,7 +1,7 @@
 // The program `tokens`: lines of numbers from standard input, an answer to each to standard output. What it is to print is
 // `program` of trace/specs, however the input arrives (`arrives` in trace/proofs): the loop here only reads and writes.
 use trace::Kept;
-ghost use Prim.Native.Nat.{_≤_, _<_, _+_};
+ghost use Prim.Native.Nat.{_≤_, _<_};
 ghost use mathlib.Core.Bool.{true};
 ghost use mathlib.Core.Path.{_≡_};
 ghost use lib.ListN.{length};
@@ -76,6 +76,7 @@ fn run(buf: &mut [u8], words: &mut [u32], marks: &mut [u8], answers: &mut [u32],
 {
     let mut kept = trace::unstarted();
     let mut have: usize = 0;
+    // the proof that a loop ends needs a number that falls; no input lasts so many reads
     let mut turns = u64::MAX;
     while turns > 0 {
         let more = read_part(&mut buf[have..]);

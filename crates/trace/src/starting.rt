@@ -3,7 +3,7 @@ use crate::kept::Advanced;
 use crate::kept::Kept;
 use model::events::Answer;
 use model::events::Stepped;
-ghost use mathlib.Core.Bool.{true, false};
+ghost use mathlib.Core.Bool.{false};
 ghost use mathlib.Core.Path.{_≡_};
 ghost use mathlib.Core.List.{[]};
 ghost use Rattle.trace.specs.Chunks.{lent, advanced, lentAfter};
