@@ -326,9 +326,7 @@ joined c =
     let e = c .before .before .decode .result in
     let tags = c .before .before .before .before .before .loop .tags in
     ⊎-elim
-    (λ w.
-    same-turn (w .21) (w .22) (w .23)
-    (slot-turn t (r .sized) (r .well) e tags (r .tagged) (r .slots) (w .0 .taken) (w .1 .taken) (w .3 .ensures) (w .5 .taken) (w .10 .ensures) (w .12 .ensures) (r .sizes) (w .16 .ensures) (w .18 .ensures) (w .19 .ensures)))
+    (λ w. same-turn (w .21) (w .22) (w .23) (slot-turn t (r .sized) (r .well) e tags (r .tagged) (r .slots) (w .0 .taken) (w .1 .taken) (w .3 .ensures) (w .5 .taken) (w .10 .ensures) (w .12 .ensures) (r .sizes) (w .16 .ensures) (w .18 .ensures) (w .19 .ensures)))
     (⊎-elim
     (λ w. same-turn (w .6) (w .7) (w .8) (slot-refused t (r .sized) (r .well) e tags (r .tagged) (r .slots) (w .0 .taken) (w .1 .taken) (w .3 .ensures) (w .5 .left) (w .4 .ensures)))
     (⊎-elim
