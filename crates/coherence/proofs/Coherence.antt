@@ -92,6 +92,7 @@ module _ (c l n : ℕ) where
 
   -- In whatever order messages are delivered, twenty of them or any number, demand 3 holds of each order.
   -- It is the instance of the four theorems above at two lists of events, the same slots delivered in two orders: they hold of every list, so the proof does not look at how the one was rearranged.
+  -- It does not say that two orders end in the same state.
   pub any-order : Started → (before rest : List Event) (slots other : List ℕ) → List·Permᴰ slots other
       → Demand3 (before ++ (map delivery slots ++ rest)) × Demand3 (before ++ (map delivery other ++ rest))
   any-order begun before rest slots other _ =
@@ -124,6 +125,7 @@ module _ (c l n : ℕ) where
 
   -- Dropping any message, tokens or an acknowledgment, changes no cell and no serial.
   -- So with an acknowledgment lost any list of reads and writes is answered as with the same acknowledgment still on its way.
+  -- Once it is delivered the two differ: before a recreation it ends the backup or the block, after one it does nothing (`late-token`).
   pub slow-or-lost : Started → (es : List Event) (d : Event) → dropping (d .kind) ≡ true
       → stepOf (after c l n es) d .answer .number ≡ 0
       → ((line node : ℕ) → cellAt (stepOf (after c l n es) d .state) line node ≡ cellAt (after c l n es) line node)

@@ -14,3 +14,4 @@ pub mod Changes
 pub mod Needs
 pub mod Nines
 pub mod Tags
+pub mod Words

@@ -1,11 +1,11 @@
--- What the slots hold, beside the state, and the words of an answer; cited by private functions alone. Assumes nothing.
+-- What the slots hold, beside the state; cited by private functions alone. Assumes nothing.
 use Prim.Native.Nat.{ℕ, _+_, _*_, _<_}
 use mathlib.Core.Bool.{Bool, not}
 use mathlib.Core.Path.{_≡_}
 use mathlib.Core.List.{List}
 use lib.Dec.{eqb, ltb}
-use lib.ListN.{getD, set}
-use Rattle.model.specs.Types.{MessageKind, Message, State, Answer, Batched}
+use lib.ListN.{getD}
+use Rattle.model.specs.Types.{MessageKind, Message}
 use Rattle.model.specs.Tools.{pick, allTo, firstTo}
 use Rattle.model.specs.States.{freeMessage, isFree}
 
@@ -32,11 +32,3 @@ absent tags tag = allTo 64 (λ i. not (eqb (getD tags i 0) tag))
 -- a delivery or a drop: the slot is above 63 or free
 unfoldable pub slotRefusal : List ℕ → ℕ → ℕ
 slotRefusal tags i = pick (ltb i 64) (pick (eqb (getD tags i 0) 0) 6 0) 6
-
--- the words with an answer's three set
-abbrev pub answerSet : List ℕ → ℕ → Answer → List ℕ
-answerSet answers at a = set (set (set answers at (a .number)) (at + 1) (a .word)) (at + 2) (a .slot)
-
--- what a batch returns
-abbrev pub batchedOf : ℕ → State → ℕ → Batched
-batchedOf n s k = record { number = n; state = s; count = k }

@@ -1,5 +1,4 @@
 -- The types of src/, under short names. Assumes nothing.
-pub use Rattle.model.specs.declared.numbers.Count.{Count}
 pub use Rattle.model.specs.declared.numbers.Serial.{Serial}
 pub use Rattle.model.specs.declared.cells.Want.{Want}
 pub use Rattle.model.specs.declared.cells.Want.the-variants.{Nothing, Read, Write}

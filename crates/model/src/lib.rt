@@ -3,6 +3,7 @@
 pub mod cells;
 mod changes;
 mod checks;
+mod choices;
 pub mod events;
 pub mod messages;
 mod moves;

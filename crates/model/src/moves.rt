@@ -2,17 +2,10 @@
 ghost use mathlib.Core.Path.{_≡_};
 ghost use Prim.Native.Nat.{_+_, _≤_, _<_};
 ghost use Rattle.model.specs.Cells.{ableToRead, ableToWrite, served, give as given, take as taken, fill as filled, block as blockedNow, backUp, unbacked, unblocked, cleared, recreated, written, withWant, wantAfter, settled};
-ghost use Rattle.model.specs.Tools.{pick};
 use crate::cells::Cell;
 use crate::cells::Want;
+use crate::choices::either;
 use crate::numbers::Count;
-
-// `a` where the test passes, else `b`.
-pub(crate) fn either(test: bool, a: u32, b: u32) -> u32
-    ensures { λ r. ⌜ r ≡ pick test a b ⌝ }
-{
-    if test { a } else { b }
-}
 
 impl Cell {
     // The count falls by the amount; with no token left, valid and the data go.

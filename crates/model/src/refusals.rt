@@ -4,8 +4,8 @@ ghost use Rattle.model.specs.Refusals.{forCaches};
 ghost use Rattle.model.specs.Rows.{ownRefusal, cellRefusal, sendRefusal};
 use crate::cells::Cell;
 use crate::checks::is_nothing;
+use crate::choices::either;
 use crate::events::Event;
-use crate::moves::either;
 use crate::numbers::Count;
 use crate::states::Sizes;
 

@@ -5,7 +5,7 @@ ghost use Rattle.model.specs.Refusals.{next, lowest as lowestOf, copyles
 ghost use Rattle.model.specs.Effects.{wordFor};
 ghost use Rattle.model.specs.Nines.{nth, marked, renewalRefusal, renewedOf};
 use crate::cells::Cell;
-use crate::moves::either;
+use crate::choices::either;
 use crate::numbers::Count;
 use crate::numbers::Serial;
 

@@ -7,11 +7,11 @@ ghost use Rattle.model.specs.Fresh.{memoryCell, freshCells, fresh as fre
 use crate::cells::Cell;
 use crate::cells::Want;
 use crate::checks::sizes_fine;
+use crate::choices::either;
 use crate::events::Answer;
 use crate::events::Stepped;
 use crate::messages::Message;
 use crate::messages::MessageKind;
-use crate::moves::either;
 use crate::numbers::Count;
 use crate::numbers::Serial;
 use crate::states::Sizes;

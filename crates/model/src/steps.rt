@@ -5,7 +5,7 @@ ghost use lib.ListN.{length, replicate};
 ghost use lib.Seq.{sets};
 ghost use Rattle.model.specs.Effects.{answer as answerOf, stepOf};
 ghost use Rattle.model.specs.Runs.{eventsTo, runOf, answersOf, wordsOf, batchOf, batchAnswers};
-ghost use Rattle.model.specs.Tags.{batchedOf};
+ghost use Rattle.model.specs.Words.{batchedOf};
 use crate::changes::answer;
 use crate::events::Batched;
 use crate::events::Event;

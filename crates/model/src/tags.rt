@@ -3,9 +3,9 @@ ghost use mathlib.Core.Path.{_≡_};
 ghost use Prim.Native.Nat.{_≤_};
 ghost use Rattle.model.specs.Tags.{tagOf, Tagged, firstUntagged, absent as absentFrom, slotRefusal};
 use crate::checks::is_free;
+use crate::choices::either;
 use crate::messages::Message;
 use crate::messages::MessageKind;
-use crate::moves::either;
 use crate::numbers::Serial;
 
 // 0 for a free slot, else a number of its own for each line and serial.

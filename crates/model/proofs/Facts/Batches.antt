@@ -12,7 +12,7 @@ use Rattle.model.specs.WellFormed.{wellFormed}
 use Rattle.model.specs.Refusals.{refusal, table, given}
 use Rattle.model.specs.Effects.{answer, answered, stepOf}
 use Rattle.model.specs.Runs.{runOf, answersOf, wordsOf, eventsTo, eventsOf, countOf, batchNumber, batchOf, batchAnswers}
-use Rattle.model.specs.Tags.{batchedOf}
+use Rattle.model.specs.Words.{batchedOf}
 use Rattle.model.proofs.Facts.Running.{refusals}
 
 -- the words of an event record

@@ -11,7 +11,8 @@ use Rattle.model.specs.Types.{Sizes, State, Event, Answer}
 use Rattle.model.specs.WellFormed.{wellFormed}
 use Rattle.model.specs.Effects.{answer, stepOf}
 use Rattle.model.specs.Runs.{runOf, answersOf, wordsOf, eventOf, eventsTo}
-use Rattle.model.specs.Tags.{Tagged, answerSet}
+use Rattle.model.specs.Tags.{Tagged}
+use Rattle.model.specs.Words.{answerSet}
 use Rattle.model.proofs.Laws.Views.{Sized}
 use Rattle.model.proofs.Keeps.Shapes.{step-keeps-sized, step-keeps-sizes}
 use Rattle.model.proofs.Keeps.Steps.{step-keeps-well-formed}
