@@ -6,6 +6,8 @@ use model::events::Answer;
 use model::events::Event;
 use model::numbers::Count;
 use model::states::State;
+ghost use Prim.Native.Nat.{_≤_};
+ghost use lib.ListN.{length};
 
 fn cell(tokens: u8, mark: bool, backup: bool, want: Want, word: u32) -> Cell {
     Cell {
@@ -57,54 +59,28 @@ fn said(s: State, e: Event) {
     show(r.answer);
 }
 
-// The number and the count of a batch.
-fn show_batch(number: u32, count: usize) {
-    io::print_decimal(1, number as u64);
+// A batch of reads, and what it leaves: its number and count, and the first three answer words.
+fn batched(s: State, events: &[u32], answers: &mut [u32])
+    requires { ⌜ 3 ≤ length (now answers) ⌝ }
+{
+    let b = model::batch(s, events, answers);
+    io::print_decimal(1, b.number as u64);
     io::write_all(1, b" ");
-    io::print_decimal(1, count as u64);
+    io::print_decimal(1, b.count as u64);
     io::write_all(1, b"\n");
+    show(words(answers[0], answers[1], answers[2]));
 }
 
 fn words(number: u32, word: u32, slot: u32) -> Answer {
     Answer { number, word, slot }
 }
 
-// Nine words, which are no multiple of eight: 20.
-fn nine_words(s: State) {
-    let events = [0u32; 9];
-    let mut answers = [77u32; 3];
-    let b = model::batch(s, &events, &mut answers);
-    show_batch(b.number, b.count);
-    show(words(answers[0], answers[1], answers[2]));
-}
-
-// Two events and five answer words: 21.
-fn five_answers(s: State) {
-    let events = [0u32; 16];
-    let mut answers = [77u32; 5];
-    let b = model::batch(s, &events, &mut answers);
-    show_batch(b.number, b.count);
-    show(words(answers[0], answers[1], answers[2]));
-}
-
-// Both: 20.
-fn both(s: State) {
-    let events = [0u32; 17];
-    let mut answers = [77u32; 5];
-    let b = model::batch(s, &events, &mut answers);
-    show_batch(b.number, b.count);
-    show(words(answers[0], answers[1], answers[2]));
-}
-
 // Two events and nine answer words: the last three stay.
 fn two_events(s: State) {
-    let events = [0u32; 16];
-    let mut answers = [77u32; 9];
-    let b = model::batch(s, &events, &mut answers);
-    show_batch(b.number, b.count);
-    show(words(answers[0], answers[1], answers[2]));
-    show(words(answers[3], answers[4], answers[5]));
-    show(words(answers[6], answers[7], answers[8]));
+    let mut nine = [77u32; 9];
+    batched(s, &[0u32; 16], &mut nine);
+    show(words(nine[3], nine[4], nine[5]));
+    show(words(nine[6], nine[7], nine[8]));
 }
 
 fn steps() {
@@ -146,9 +122,14 @@ fn main() {
     steps();
     let none = cell(0, false, false, Want::Nothing, 0);
     let held = with_two(cell(3, true, false, Want::Nothing, 7), none);
-    nine_words(held);
-    five_answers(held);
-    both(held);
+    let mut three = [77u32; 3];
+    let mut five = [77u32; 5];
+    // nine words, which are no multiple of eight: 20
+    batched(held, &[0u32; 9], &mut three);
+    // two events and five answer words: 21
+    batched(held, &[0u32; 16], &mut five);
+    // both: 20
+    batched(held, &[0u32; 17], &mut five);
     two_events(held);
     // four tokens where N is three: not well formed, so each event answers 1
     two_events(with_two(cell(4, true, false, Want::Nothing, 7), none));
