@@ -1,11 +1,11 @@
 // States made by hand, some of which no start reaches, each beside a neighbour: what a step answers, one line for each. Then
 // batches of reads at cache 0 with lists of several lengths: number and count, and the answer words, which held 77.
-use model::cells::Cell;
-use model::cells::Want;
-use model::events::Answer;
-use model::events::Event;
-use model::numbers::Count;
-use model::states::State;
+use rules::cells::Cell;
+use rules::cells::Want;
+use rules::events::Answer;
+use rules::events::Event;
+use rules::numbers::Count;
+use rules::states::State;
 ghost use Prim.Native.Nat.{_≤_};
 ghost use lib.ListN.{length};
 

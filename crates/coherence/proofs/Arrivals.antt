@@ -6,19 +6,19 @@ use native.Mathlib.Omega.{arith}
 use borrow.Author.Tests.{eq-eqb}
 use lib.Dec.{eqb}
 use Rattle.coherence.specs.Types.{Cell, MessageKind, Tokens, OwnershipAck, DeletionAck, Message, State, Stepped}
-use Rattle.model.specs.Tools.{pick}
-use Rattle.model.specs.States.{slotAt, freeMessage, bears}
-use Rattle.model.specs.WellFormed.{inCells, held, borne}
-use Rattle.model.specs.Cells.{received, unbacked, unblocked}
-use Rattle.model.specs.Refusals.{freeAt}
-use Rattle.model.specs.Effects.{ack, target, landed}
-use Rattle.model.proofs.Laws.Bools.{bit, bit-of, bit-not, bit-small, clash, split}
-use Rattle.model.proofs.Laws.Cells.{received-is}
-use Rattle.model.proofs.Laws.Views.{Sized}
-use Rattle.model.proofs.Laws.Bears.{bears-free, bears-its, cell-share}
-use Rattle.model.proofs.Keeps.Messages.{tokened}
-use Rattle.model.proofs.Keeps.Well.{Well, slot-sort}
-use Rattle.model.proofs.Keeps.Arrivals.{current, joining, Live, Arrives, gone, tokens, ownership, acknowledged, deleted, Landed, landed-change, live-bears, landed-like}
+use Rattle.rules.specs.Tools.{pick}
+use Rattle.rules.specs.States.{slotAt, freeMessage, bears}
+use Rattle.rules.specs.WellFormed.{inCells, held, borne}
+use Rattle.rules.specs.Cells.{received, unbacked, unblocked}
+use Rattle.rules.specs.Refusals.{freeAt}
+use Rattle.rules.specs.Effects.{ack, target, landed}
+use Rattle.rules.proofs.Laws.Bools.{bit, bit-of, bit-not, bit-small, clash, split}
+use Rattle.rules.proofs.Laws.Cells.{received-is}
+use Rattle.rules.proofs.Laws.Views.{Sized}
+use Rattle.rules.proofs.Laws.Bears.{bears-free, bears-its, cell-share}
+use Rattle.rules.proofs.Keeps.Messages.{tokened}
+use Rattle.rules.proofs.Keeps.Well.{Well, slot-sort}
+use Rattle.rules.proofs.Keeps.Arrivals.{current, joining, Live, Arrives, gone, tokens, ownership, acknowledged, deleted, Landed, landed-change, live-bears, landed-like}
 use Rattle.coherence.proofs.Invariant.{owners, backups, blocks, passed, ackOf, ownershipAcks, deletionAcks, CountsOf, Has, Saves, Carries, Kept, Held}
 use Rattle.coherence.proofs.Changes.{Shares, live, dead, blocked-owners, held-change, kept-here, saved-here, Moved, moved}
 

@@ -6,14 +6,14 @@ use mathlib.Core.Bool.{true, false}
 use native.Mathlib.Omega.{arith}
 use native.Mathlib.Decide.{ℕ-discrete}
 use Rattle.coherence.specs.Types.{Cell, Message, State}
-use Rattle.model.specs.States.{cellAt, slotAt, serialAt, bears}
-use Rattle.model.specs.WellFormed.{counted, inCells, inMessages, held, borne}
-use Rattle.model.proofs.Laws.Bools.{clash}
-use Rattle.model.proofs.Laws.Sums.{sum-le}
-use Rattle.model.proofs.Laws.Views.{lines-of, total-of}
-use Rattle.model.proofs.Laws.Bears.{Off, Like, alike, apart, counts, counts-not}
-use Rattle.model.proofs.Laws.Changes.{Changed, cells-at, cells-other, messages-at, messages-other}
-use Rattle.model.proofs.Keeps.Well.{Well, marks}
+use Rattle.rules.specs.States.{cellAt, slotAt, serialAt, bears}
+use Rattle.rules.specs.WellFormed.{counted, inCells, inMessages, held, borne}
+use Rattle.rules.proofs.Laws.Bools.{clash}
+use Rattle.rules.proofs.Laws.Sums.{sum-le}
+use Rattle.rules.proofs.Laws.Views.{lines-of, total-of}
+use Rattle.rules.proofs.Laws.Bears.{Off, Like, alike, apart, counts, counts-not}
+use Rattle.rules.proofs.Laws.Changes.{Changed, cells-at, cells-other, messages-at, messages-other}
+use Rattle.rules.proofs.Keeps.Well.{Well, marks}
 use Rattle.coherence.proofs.Invariant.{owners, backups, blocks, passed, ownershipAcks, deletionAcks, CountsOf, Has, Saves, Carries, Kept, Held, kept-same}
 
 -- what a message adds to its line's counts: tokens, owner marks, ownership and deletion acknowledgments

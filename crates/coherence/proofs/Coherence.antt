@@ -9,19 +9,19 @@ use borrow.Author.Tests.{eqb-false}
 use lib.ListN.{length, getD, take}
 use Rattle.coherence.specs.Types.{Event, Stepped}
 use Rattle.coherence.specs.Histories.{after, answers, Overtaken, onward, stays, delivery, readsAndWrites}
-use Rattle.model.specs.States.{freeMessage, cellAt, slotAt, serialAt}
-use Rattle.model.specs.WellFormed.{wellFormed}
-use Rattle.model.specs.Fresh.{startOf}
-use Rattle.model.specs.Cells.{ableToWrite}
-use Rattle.model.specs.Refusals.{reading, delivering, dropping, copyless}
-use Rattle.model.specs.Effects.{answer, emptied, stepOf}
-use Rattle.model.specs.Runs.{answersOf, lastWrite}
-use Rattle.model.proofs.Laws.Views.{caches-of, lines-of, total-of}
-use Rattle.model.proofs.Keeps.Cells.{Able, able-write}
-use Rattle.model.proofs.Keeps.Well.{well-formed, place}
-use Rattle.model.proofs.Keeps.Numbers.{step-number}
-use Rattle.model.proofs.Keeps.Shapes.{step-keeps-sized}
-use Rattle.model.proofs.Keeps.Steps.{step-keeps-well, step-keeps-well-formed, run-keeps-well}
+use Rattle.rules.specs.States.{freeMessage, cellAt, slotAt, serialAt}
+use Rattle.rules.specs.WellFormed.{wellFormed}
+use Rattle.rules.specs.Fresh.{startOf}
+use Rattle.rules.specs.Cells.{ableToWrite}
+use Rattle.rules.specs.Refusals.{reading, delivering, dropping, copyless}
+use Rattle.rules.specs.Effects.{answer, emptied, stepOf}
+use Rattle.rules.specs.Runs.{answersOf, lastWrite}
+use Rattle.rules.proofs.Laws.Views.{caches-of, lines-of, total-of}
+use Rattle.rules.proofs.Keeps.Cells.{Able, able-write}
+use Rattle.rules.proofs.Keeps.Well.{well-formed, place}
+use Rattle.rules.proofs.Keeps.Numbers.{step-number}
+use Rattle.rules.proofs.Keeps.Shapes.{step-keeps-sized}
+use Rattle.rules.proofs.Keeps.Steps.{step-keeps-well, step-keeps-well-formed, run-keeps-well}
 use Rattle.coherence.proofs.Writes.{alone}
 use Rattle.coherence.proofs.Runs.{good, has-copies, never-18}
 use Rattle.coherence.proofs.LastWrites.{read-at}

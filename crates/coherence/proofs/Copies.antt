@@ -8,10 +8,10 @@ use native.Mathlib.Omega.{arith}
 use borrow.Author.Tests.{eq-eqb, leb-false, ltb-false}
 use lib.Dec.{eqb, leb, ltb}
 use Rattle.coherence.specs.Types.{State, Event}
-use Rattle.model.specs.States.{cellAt}
-use Rattle.model.specs.Refusals.{slotted, copyless, Row, row, table, given, refusal}
-use Rattle.model.proofs.Laws.Bools.{clash, split, by-pick, and-both}
-use Rattle.model.proofs.Keeps.Accepted.{by-kind}
+use Rattle.rules.specs.States.{cellAt}
+use Rattle.rules.specs.Refusals.{slotted, copyless, Row, row, table, given, refusal}
+use Rattle.rules.proofs.Laws.Bools.{clash, split, by-pick, and-both}
+use Rattle.rules.proofs.Keeps.Accepted.{by-kind}
 
 -- a row of another number, one that applies, and a row that does not apply
 other : (n x : ℕ) (b : Bool) (rs : List Row) → n ≢ x → given rs ≢ x → given (row n b ∷ rs) ≢ x

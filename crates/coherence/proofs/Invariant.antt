@@ -6,11 +6,11 @@ use native.Mathlib.Omega.{arith}
 use native.Mathlib.Decide.{ℕ-discrete}
 use lib.Dec.{eqb}
 use Rattle.coherence.specs.Types.{Cell, MessageKind, Free, Tokens, OwnershipAck, DeletionAck, Message, State}
-use Rattle.model.specs.States.{cellAt, slotAt, serialAt, bears}
-use Rattle.model.specs.WellFormed.{inCells, inMessages, held, borne}
-use Rattle.model.proofs.Laws.Bools.{bit, clash}
-use Rattle.model.proofs.Laws.Views.{total-of}
-use Rattle.model.proofs.Laws.Sole.{Sole, sole-cells, sole-messages}
+use Rattle.rules.specs.States.{cellAt, slotAt, serialAt, bears}
+use Rattle.rules.specs.WellFormed.{inCells, inMessages, held, borne}
+use Rattle.rules.proofs.Laws.Bools.{bit, clash}
+use Rattle.rules.proofs.Laws.Views.{total-of}
+use Rattle.rules.proofs.Laws.Sole.{Sole, sole-cells, sole-messages}
 
 -- what is counted in cells besides tokens: owners, backups, blocked owners
 abbrev pub owners : Cell → ℕ

@@ -8,14 +8,14 @@ use borrow.Author.Tests.{eqb-true}
 use lib.ListN.{length, getD}
 use Rattle.coherence.specs.Types.{State, Event, Answer, Stepped}
 use Rattle.coherence.specs.Histories.{after, answers}
-use Rattle.model.specs.Fresh.{startOf}
-use Rattle.model.specs.Refusals.{reading, cellOf, table, refusal}
-use Rattle.model.specs.Effects.{answer, readOf, effect, stepOf}
-use Rattle.model.specs.Runs.{lastWrite}
-use Rattle.model.proofs.Keeps.Cells.{able-read}
-use Rattle.model.proofs.Keeps.Well.{Well, place}
-use Rattle.model.proofs.Keeps.Accepted.{Clear, accepted, caches, reads}
-use Rattle.model.proofs.Keeps.Numbers.{step-number, step-effect}
+use Rattle.rules.specs.Fresh.{startOf}
+use Rattle.rules.specs.Refusals.{reading, cellOf, table, refusal}
+use Rattle.rules.specs.Effects.{answer, readOf, effect, stepOf}
+use Rattle.rules.specs.Runs.{lastWrite}
+use Rattle.rules.proofs.Keeps.Cells.{able-read}
+use Rattle.rules.proofs.Keeps.Well.{Well, place}
+use Rattle.rules.proofs.Keeps.Accepted.{Clear, accepted, caches, reads}
+use Rattle.rules.proofs.Keeps.Numbers.{step-number, step-effect}
 use Rattle.coherence.proofs.Invariant.{Held}
 use Rattle.coherence.proofs.Runs.{good, answer-at, last-before}
 

@@ -9,23 +9,23 @@ use borrow.Author.Tests.{eqb-true, eqb-false, le-ltb, not-true}
 use lib.Dec.{eqb}
 use Rattle.coherence.specs.Types.{Read, Write, Cell, Message, State, Event, Stepped}
 use Rattle.coherence.specs.Histories.{Overtaken, emptiedBy, stays}
-use Rattle.model.specs.States.{slotAt, serialAt, isFree, bears, withCell}
-use Rattle.model.specs.Cells.{withWant, written}
-use Rattle.model.specs.Refusals.{slotted, delivering, freeAt, cellOf, table, given, refusal}
-use Rattle.model.specs.Effects.{emptied, readOf, writeOf, sendOf, wantOf, deliverOf, recreateOf, effect, stepOf}
-use Rattle.model.specs.Runs.{runOf, answersOf}
-use Rattle.model.proofs.Laws.Bools.{clash, split, and-both}
-use Rattle.model.proofs.Laws.Views.{Sized, kept-slot}
-use Rattle.model.proofs.Laws.Bears.{bears-not}
-use Rattle.model.proofs.Keeps.Well.{Well, well-formed}
-use Rattle.model.proofs.Keeps.Accepted.{Clear, accepted, by-kind, kind-small, Named, Sends, Timeout, names, times, slots, sends}
-use Rattle.model.proofs.Keeps.Numbers.{step-number, step-effect, step-refused, recreates}
-use Rattle.model.proofs.Keeps.Changes.{cell-change}
-use Rattle.model.proofs.Keeps.Sends.{send-change}
-use Rattle.model.proofs.Keeps.Arrivals.{Landed, empties, delivers, landed-change}
-use Rattle.model.proofs.Keeps.Renewals.{change, sole}
-use Rattle.model.proofs.Keeps.Shapes.{step-keeps-sized}
-use Rattle.model.proofs.Keeps.Steps.{step-keeps-well}
+use Rattle.rules.specs.States.{slotAt, serialAt, isFree, bears, withCell}
+use Rattle.rules.specs.Cells.{withWant, written}
+use Rattle.rules.specs.Refusals.{slotted, delivering, freeAt, cellOf, table, given, refusal}
+use Rattle.rules.specs.Effects.{emptied, readOf, writeOf, sendOf, wantOf, deliverOf, recreateOf, effect, stepOf}
+use Rattle.rules.specs.Runs.{runOf, answersOf}
+use Rattle.rules.proofs.Laws.Bools.{clash, split, and-both}
+use Rattle.rules.proofs.Laws.Views.{Sized, kept-slot}
+use Rattle.rules.proofs.Laws.Bears.{bears-not}
+use Rattle.rules.proofs.Keeps.Well.{Well, well-formed}
+use Rattle.rules.proofs.Keeps.Accepted.{Clear, accepted, by-kind, kind-small, Named, Sends, Timeout, names, times, slots, sends}
+use Rattle.rules.proofs.Keeps.Numbers.{step-number, step-effect, step-refused, recreates}
+use Rattle.rules.proofs.Keeps.Changes.{cell-change}
+use Rattle.rules.proofs.Keeps.Sends.{send-change}
+use Rattle.rules.proofs.Keeps.Arrivals.{Landed, empties, delivers, landed-change}
+use Rattle.rules.proofs.Keeps.Renewals.{change, sole}
+use Rattle.rules.proofs.Keeps.Shapes.{step-keeps-sized}
+use Rattle.rules.proofs.Keeps.Steps.{step-keeps-well}
 
 -- slot i holds the message m, whose serial is not its line's
 pub record Late (s : State) (i : ℕ) (m : Message) : Type 0 where

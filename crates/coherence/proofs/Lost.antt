@@ -7,18 +7,18 @@ use mathlib.Core.Bool.{Bool, true, false, _||_}
 use borrow.Author.Tests.{eqb-true}
 use lib.Dec.{eqb}
 use Rattle.coherence.specs.Types.{Message, State, Event}
-use Rattle.model.specs.Tools.{pick}
-use Rattle.model.specs.States.{cellAt, serialAt, withCell, withSlot}
-use Rattle.model.specs.WellFormed.{wellFormed}
-use Rattle.model.specs.Refusals.{reading, writing, dropping, table, given, refusal}
-use Rattle.model.specs.Effects.{answer, emptied, readOf, writeOf, effect, stepOf}
-use Rattle.model.proofs.Laws.Bools.{split, and-left, and-right}
-use Rattle.model.proofs.Laws.Views.{Sized}
-use Rattle.model.proofs.Keeps.Shapes.{step-keeps-sized}
-use Rattle.model.proofs.Keeps.Steps.{step-keeps-well-formed}
-use Rattle.model.specs.Runs.{answersOf}
+use Rattle.rules.specs.Tools.{pick}
+use Rattle.rules.specs.States.{cellAt, serialAt, withCell, withSlot}
+use Rattle.rules.specs.WellFormed.{wellFormed}
+use Rattle.rules.specs.Refusals.{reading, writing, dropping, table, given, refusal}
+use Rattle.rules.specs.Effects.{answer, emptied, readOf, writeOf, effect, stepOf}
+use Rattle.rules.proofs.Laws.Bools.{split, and-left, and-right}
+use Rattle.rules.proofs.Laws.Views.{Sized}
+use Rattle.rules.proofs.Keeps.Shapes.{step-keeps-sized}
+use Rattle.rules.proofs.Keeps.Steps.{step-keeps-well-formed}
+use Rattle.rules.specs.Runs.{answersOf}
 use Rattle.coherence.specs.Histories.{readsAndWrites}
-use Rattle.model.proofs.Keeps.Numbers.{step-effect}
+use Rattle.rules.proofs.Keeps.Numbers.{step-effect}
 
 module _ (s : State) (i : ℕ) (m : Message) where
   -- a slot that is put leaves the cells and the serials

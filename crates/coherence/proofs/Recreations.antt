@@ -7,17 +7,17 @@ use native.Mathlib.Decide.{ℕ-discrete}
 use borrow.Author.Tests.{ltb-true, ltb-false, eqb-true}
 use lib.Dec.{eqb, ltb}
 use Rattle.coherence.specs.Types.{Cell, State, Event}
-use Rattle.model.specs.States.{cellAt, serialAt}
-use Rattle.model.specs.WellFormed.{inCells}
-use Rattle.model.specs.Refusals.{lowest, copyless}
-use Rattle.model.specs.Effects.{wordFor, recreateOf}
-use Rattle.model.proofs.Laws.Bools.{bit, split, by-pick, and-left, and-right, bit-of, bit-not, of-bit}
-use Rattle.model.proofs.Laws.Sums.{sum-zero, first-hit, first-none}
-use Rattle.model.proofs.Laws.Views.{lines-of, total-of, Sized}
-use Rattle.model.proofs.Laws.Renewals.{other-cells, other-messages}
-use Rattle.model.proofs.Keeps.Well.{Well, sizes-ok, marks}
-use Rattle.model.proofs.Keeps.Accepted.{Timeout}
-use Rattle.model.proofs.Keeps.Renewals.{change, sole}
+use Rattle.rules.specs.States.{cellAt, serialAt}
+use Rattle.rules.specs.WellFormed.{inCells}
+use Rattle.rules.specs.Refusals.{lowest, copyless}
+use Rattle.rules.specs.Effects.{wordFor, recreateOf}
+use Rattle.rules.proofs.Laws.Bools.{bit, split, by-pick, and-left, and-right, bit-of, bit-not, of-bit}
+use Rattle.rules.proofs.Laws.Sums.{sum-zero, first-hit, first-none}
+use Rattle.rules.proofs.Laws.Views.{lines-of, total-of, Sized}
+use Rattle.rules.proofs.Laws.Renewals.{other-cells, other-messages}
+use Rattle.rules.proofs.Keeps.Well.{Well, sizes-ok, marks}
+use Rattle.rules.proofs.Keeps.Accepted.{Timeout}
+use Rattle.rules.proofs.Keeps.Renewals.{change, sole}
 use Rattle.coherence.proofs.Invariant.{Carries, CountsOf, Kept, Held, kept-same, kept-sole}
 
 module _ (s : State) (l : ℕ) (mark : Cell → Bool) where

@@ -8,20 +8,20 @@ use native.Mathlib.Omega.{arith}
 use lib.ListN.{length, getD}
 use Rattle.coherence.specs.Types.{State, Event, Answer}
 use Rattle.coherence.specs.Histories.{after, answers}
-use Rattle.model.specs.Tools.{pick}
-use Rattle.model.specs.States.{cellAt}
-use Rattle.model.specs.WellFormed.{sizesFine}
-use Rattle.model.specs.Fresh.{sizes, fresh, startOf}
-use Rattle.model.specs.Refusals.{copyless}
-use Rattle.model.specs.Effects.{answer, stepOf}
-use Rattle.model.specs.Runs.{runOf, answersOf, wrote, lastWriteAfter, lastWrite}
-use Rattle.model.proofs.Laws.Bools.{split}
-use Rattle.model.proofs.Laws.Views.{Sized}
-use Rattle.model.proofs.Keeps.Well.{Well}
-use Rattle.model.proofs.Keeps.Numbers.{step-number}
-use Rattle.model.proofs.Keeps.Shapes.{step-keeps-sizes, step-keeps-sized}
-use Rattle.model.proofs.Keeps.Steps.{step-keeps-well}
-use Rattle.model.proofs.Keeps.Starts.{sole, fresh-sized, fresh-well}
+use Rattle.rules.specs.Tools.{pick}
+use Rattle.rules.specs.States.{cellAt}
+use Rattle.rules.specs.WellFormed.{sizesFine}
+use Rattle.rules.specs.Fresh.{sizes, fresh, startOf}
+use Rattle.rules.specs.Refusals.{copyless}
+use Rattle.rules.specs.Effects.{answer, stepOf}
+use Rattle.rules.specs.Runs.{runOf, answersOf, wrote, lastWriteAfter, lastWrite}
+use Rattle.rules.proofs.Laws.Bools.{split}
+use Rattle.rules.proofs.Laws.Views.{Sized}
+use Rattle.rules.proofs.Keeps.Well.{Well}
+use Rattle.rules.proofs.Keeps.Numbers.{step-number}
+use Rattle.rules.proofs.Keeps.Shapes.{step-keeps-sizes, step-keeps-sized}
+use Rattle.rules.proofs.Keeps.Steps.{step-keeps-well}
+use Rattle.rules.proofs.Keeps.Starts.{sole, fresh-sized, fresh-well}
 use Rattle.coherence.proofs.Invariant.{Held, kept-sole}
 use Rattle.coherence.proofs.Recreations.{has-copy}
 use Rattle.coherence.proofs.Copies.{not-18}

@@ -6,17 +6,17 @@ use native.Mathlib.Omega.{arith}
 use borrow.Author.Tests.{eq-eqb}
 use lib.Dec.{eqb, ltb}
 use Rattle.coherence.specs.Types.{Cell, State, Event}
-use Rattle.model.specs.Tools.{pick}
-use Rattle.model.specs.States.{cellAt, slotAt, serialAt}
-use Rattle.model.specs.WellFormed.{held}
-use Rattle.model.specs.Refusals.{cellOf, lowestFree}
-use Rattle.model.specs.Effects.{sendOf}
-use Rattle.model.proofs.Laws.Bools.{bit, bit-of, bit-not, of-bit, clash, split}
-use Rattle.model.proofs.Laws.Views.{Sized}
-use Rattle.model.proofs.Laws.Bears.{bears-free, bears-its, cell-share}
-use Rattle.model.proofs.Keeps.Well.{Well, cell-in}
-use Rattle.model.proofs.Keeps.Accepted.{Sends}
-use Rattle.model.proofs.Keeps.Sends.{outgoing, remaining, by-mark, remaining-count, send-like, send-change, send-well}
+use Rattle.rules.specs.Tools.{pick}
+use Rattle.rules.specs.States.{cellAt, slotAt, serialAt}
+use Rattle.rules.specs.WellFormed.{held}
+use Rattle.rules.specs.Refusals.{cellOf, lowestFree}
+use Rattle.rules.specs.Effects.{sendOf}
+use Rattle.rules.proofs.Laws.Bools.{bit, bit-of, bit-not, of-bit, clash, split}
+use Rattle.rules.proofs.Laws.Views.{Sized}
+use Rattle.rules.proofs.Laws.Bears.{bears-free, bears-its, cell-share}
+use Rattle.rules.proofs.Keeps.Well.{Well, cell-in}
+use Rattle.rules.proofs.Keeps.Accepted.{Sends}
+use Rattle.rules.proofs.Keeps.Sends.{outgoing, remaining, by-mark, remaining-count, send-like, send-change, send-well}
 use Rattle.coherence.proofs.Invariant.{owners, backups, blocks, CountsOf, Has, Saves, Carries, Kept, Held}
 use Rattle.coherence.proofs.Changes.{Shares, live, dead, blocked-owners, held-change, kept-here, saved-here, Moved, moved}
 

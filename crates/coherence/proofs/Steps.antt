@@ -6,19 +6,19 @@ use native.Mathlib.Omega.{arith}
 use borrow.Author.Tests.{eqb-true}
 use lib.Dec.{eqb}
 use Rattle.coherence.specs.Types.{Want, Read, Write, State, Event, Stepped}
-use Rattle.model.specs.Tools.{pick}
-use Rattle.model.specs.Cells.{withWant}
-use Rattle.model.specs.Refusals.{slotted, writing, cellOf, table, refusal}
-use Rattle.model.specs.Effects.{readOf, wantOf, effect, stepOf}
-use Rattle.model.specs.Runs.{wrote}
-use Rattle.model.proofs.Laws.Bools.{split}
-use Rattle.model.proofs.Laws.Views.{Sized}
-use Rattle.model.proofs.Laws.Bears.{alike}
-use Rattle.model.proofs.Keeps.Well.{Well}
-use Rattle.model.proofs.Keeps.Accepted.{Clear, accepted, by-kind, kind-small, Cached, caches, times, slots, sends}
-use Rattle.model.proofs.Keeps.Numbers.{step-number}
-use Rattle.model.proofs.Keeps.Changes.{cell-change}
-use Rattle.model.proofs.Keeps.Arrivals.{Landed, empties, delivers}
+use Rattle.rules.specs.Tools.{pick}
+use Rattle.rules.specs.Cells.{withWant}
+use Rattle.rules.specs.Refusals.{slotted, writing, cellOf, table, refusal}
+use Rattle.rules.specs.Effects.{readOf, wantOf, effect, stepOf}
+use Rattle.rules.specs.Runs.{wrote}
+use Rattle.rules.proofs.Laws.Bools.{split}
+use Rattle.rules.proofs.Laws.Views.{Sized}
+use Rattle.rules.proofs.Laws.Bears.{alike}
+use Rattle.rules.proofs.Keeps.Well.{Well}
+use Rattle.rules.proofs.Keeps.Accepted.{Clear, accepted, by-kind, kind-small, Cached, caches, times, slots, sends}
+use Rattle.rules.proofs.Keeps.Numbers.{step-number}
+use Rattle.rules.proofs.Keeps.Changes.{cell-change}
+use Rattle.rules.proofs.Keeps.Arrivals.{Landed, empties, delivers}
 use Rattle.coherence.proofs.Invariant.{Held}
 use Rattle.coherence.proofs.Changes.{held-change, kept-here, saved-here, moved}
 use Rattle.coherence.proofs.Sends.{send-held}

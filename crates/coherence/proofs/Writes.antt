@@ -7,21 +7,21 @@ use native.Mathlib.Decide.{ℕ-discrete}
 use borrow.Author.Tests.{eq-eqb, ne-eqb}
 use lib.Dec.{eqb}
 use Rattle.coherence.specs.Types.{State, Event}
-use Rattle.model.specs.Tools.{pick}
-use Rattle.model.specs.States.{cellAt, slotAt, serialAt, withCell}
-use Rattle.model.specs.WellFormed.{counted, inCells, inMessages, held, borne, tokensOf}
-use Rattle.model.specs.Cells.{written}
-use Rattle.model.specs.Refusals.{cellOf, table}
-use Rattle.model.specs.Effects.{writeOf}
-use Rattle.model.proofs.Laws.Bools.{bit-of}
-use Rattle.model.proofs.Laws.Sums.{sum-le, sum-two}
-use Rattle.model.proofs.Laws.Views.{Sized, lines-of, kept-slot}
-use Rattle.model.proofs.Laws.Bears.{alike, counts, counted-mono, cell-share, message-share}
-use Rattle.model.proofs.Keeps.Cells.{Able, able-write}
-use Rattle.model.proofs.Keeps.Messages.{tokened}
-use Rattle.model.proofs.Keeps.Well.{Well, place, marks, slot-sort}
-use Rattle.model.proofs.Keeps.Accepted.{Clear, caches, writes}
-use Rattle.model.proofs.Keeps.Changes.{cell-change}
+use Rattle.rules.specs.Tools.{pick}
+use Rattle.rules.specs.States.{cellAt, slotAt, serialAt, withCell}
+use Rattle.rules.specs.WellFormed.{counted, inCells, inMessages, held, borne, tokensOf}
+use Rattle.rules.specs.Cells.{written}
+use Rattle.rules.specs.Refusals.{cellOf, table}
+use Rattle.rules.specs.Effects.{writeOf}
+use Rattle.rules.proofs.Laws.Bools.{bit-of}
+use Rattle.rules.proofs.Laws.Sums.{sum-le, sum-two}
+use Rattle.rules.proofs.Laws.Views.{Sized, lines-of, kept-slot}
+use Rattle.rules.proofs.Laws.Bears.{alike, counts, counted-mono, cell-share, message-share}
+use Rattle.rules.proofs.Keeps.Cells.{Able, able-write}
+use Rattle.rules.proofs.Keeps.Messages.{tokened}
+use Rattle.rules.proofs.Keeps.Well.{Well, place, marks, slot-sort}
+use Rattle.rules.proofs.Keeps.Accepted.{Clear, caches, writes}
+use Rattle.rules.proofs.Keeps.Changes.{cell-change}
 use Rattle.coherence.proofs.Invariant.{passed, Has, Carries, Kept, Held}
 use Rattle.coherence.proofs.Changes.{kept-other, moved}
 

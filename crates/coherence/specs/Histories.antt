@@ -5,11 +5,11 @@ use mathlib.Core.Bool.{Bool, true, false, not, _&&_, _||_}
 use mathlib.Core.List.{List, [], _∷_}
 use lib.Dec.{eqb}
 use Rattle.coherence.specs.Types.{State, Event, Answer}
-use Rattle.model.specs.States.{slotAt}
-use Rattle.model.specs.Fresh.{startOf}
-use Rattle.model.specs.Refusals.{reading, writing, timeout, slotted, freeAt}
-use Rattle.model.specs.Effects.{stepOf}
-use Rattle.model.specs.Runs.{runOf, answersOf}
+use Rattle.rules.specs.States.{slotAt}
+use Rattle.rules.specs.Fresh.{startOf}
+use Rattle.rules.specs.Refusals.{reading, writing, timeout, slotted, freeAt}
+use Rattle.rules.specs.Effects.{stepOf}
+use Rattle.rules.specs.Runs.{runOf, answersOf}
 
 -- the state after a start of c caches, l lines and n tokens and the events
 abbrev pub after : ℕ → ℕ → ℕ → List Event → State

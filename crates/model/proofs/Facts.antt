@@ -1,11 +1,3 @@
-pub mod Bools
-pub mod Fresh
-pub mod Loops
-pub mod Tables
-pub mod Checked
-pub mod Rows
-pub mod Changes
-pub mod Renewals
 pub mod Numbers
 pub mod Turns
 pub mod Searches

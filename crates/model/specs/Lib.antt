@@ -1,17 +1,2 @@
 pub mod Types
-pub mod Tools
-pub mod Cells
-pub mod States
-pub mod WellFormed
-pub mod Fresh
-pub mod Refusals
-pub mod Effects
-pub mod Runs
-pub mod Tallies
-pub mod Places
-pub mod Rows
-pub mod Changes
-pub mod Needs
-pub mod Nines
-pub mod Tags
 pub mod Words

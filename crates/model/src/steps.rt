@@ -3,17 +3,17 @@ ghost use mathlib.Core.Path.{_≡_};
 ghost use Prim.Native.Nat.{_*_, _≤_};
 ghost use lib.ListN.{length, replicate};
 ghost use lib.Seq.{sets};
-ghost use Rattle.model.specs.Effects.{answer as answerOf, stepOf};
-ghost use Rattle.model.specs.Runs.{eventsTo, runOf, answersOf, wordsOf, batchOf, batchAnswers};
+ghost use Rattle.rules.specs.Effects.{answer as answerOf, stepOf};
+ghost use Rattle.rules.specs.Runs.{eventsTo, runOf, answersOf, wordsOf, batchOf, batchAnswers};
 ghost use Rattle.model.specs.Words.{batchedOf};
-use crate::changes::answer;
-use crate::events::Batched;
-use crate::events::Event;
-use crate::events::Stepped;
 use crate::runs::put;
 use crate::runs::run;
-use crate::states::State;
-use crate::tallies::well_formed;
+use parts::changes::answer;
+use rules::events::Batched;
+use rules::events::Event;
+use rules::events::Stepped;
+use rules::states::State;
+use whole::well_formed;
 
 // Each of n events answers 1.
 fn refuse_all(n: usize, answers: &mut [u32])

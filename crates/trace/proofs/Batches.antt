@@ -10,11 +10,11 @@ use borrow.Author.Tests.{eqb-true, eq-eqb, le-leb, le-ltb}
 use lib.Dec.{eqb}
 use lib.ListN.{length, getD, take, drop, length-append, length-map, length-take, length-drop, List·getD-append}
 use lib.Seq.{sets, sets-eq, take-at, drop-at}
-use Rattle.model.specs.declared.states.State.{State}
-use Rattle.model.specs.declared.events.Answer.{Answer}
-use Rattle.model.specs.declared.events.Batched.{Batched}
-use Rattle.model.specs.Effects.{stepOf}
-use Rattle.model.specs.Runs.{runOf, answersOf, eventOf, eventsTo, eventsOf, wordsOf, batchNumber, batchOf, batchAnswers}
+use Rattle.rules.specs.declared.states.State.{State}
+use Rattle.rules.specs.declared.events.Answer.{Answer}
+use Rattle.rules.specs.declared.events.Batched.{Batched}
+use Rattle.rules.specs.Effects.{stepOf}
+use Rattle.rules.specs.Runs.{runOf, answersOf, eventOf, eventsTo, eventsOf, wordsOf, batchNumber, batchOf, batchAnswers}
 use Rattle.text.specs.declared.chunks.Parsed.{Parsed}
 use Rattle.text.specs.Lines.{linesOf}
 use Rattle.text.specs.Reading.{numbersOf, exactly}

@@ -7,8 +7,8 @@ use native.Mathlib.Omega.{arith}
 use lib.Dec.{eqb}
 use lib.Seq.{drop-drop, take-all}
 use lib.ListN.{length, take, drop, length-append, length-take, length-drop, drop-of-length-le}
-use Rattle.model.specs.declared.events.Answer.{Answer}
-use Rattle.model.specs.Tools.{pick}
+use Rattle.rules.specs.declared.events.Answer.{Answer}
+use Rattle.rules.specs.Tools.{pick}
 use Rattle.text.specs.Lines.{linesOf, passed, passedBy}
 use Rattle.text.proofs.Answers.{answer-short}
 use Rattle.trace.specs.declared.kept.Kept.{Kept}

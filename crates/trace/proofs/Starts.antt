@@ -10,11 +10,11 @@ use borrow.Author.Tests.{eqb-true, leb-false, ne-eqb, eq-eqb}
 use lib.Dec.{eqb, leb}
 use lib.ListN.{length, getD, take, replicate}
 use lib.Seq.{sets, take-nil}
-use Rattle.model.specs.declared.events.Stepped.{Stepped}
-use Rattle.model.specs.Tools.{every}
-use Rattle.model.specs.WellFormed.{sizesFine}
-use Rattle.model.specs.Fresh.{zeroState, startOf}
-use Rattle.model.specs.Runs.{answersOf, wordsOf, eventsTo}
+use Rattle.rules.specs.declared.events.Stepped.{Stepped}
+use Rattle.rules.specs.Tools.{every}
+use Rattle.rules.specs.WellFormed.{sizesFine}
+use Rattle.rules.specs.Fresh.{zeroState, startOf}
+use Rattle.rules.specs.Runs.{answersOf, wordsOf, eventsTo}
 use Rattle.text.specs.declared.reading.Taken.{Taken}
 use Rattle.text.specs.Lines.{linesOf, firstLine, passed, passedBy}
 use Rattle.text.specs.Reading.{numbersOf, exactly, packed, takenAt}

@@ -3,7 +3,7 @@ use Prim.Native.Nat.{ℕ, suc}
 use mathlib.Core.List.{List, [], _∷_, _++_}
 use lib.Dec.{eqb}
 use lib.ListN.{take, drop}
-use Rattle.model.specs.Tools.{pick}
+use Rattle.rules.specs.Tools.{pick}
 use Rattle.text.specs.Lines.{linesOf}
 use Rattle.trace.specs.declared.kept.Kept.{Kept}
 use Rattle.trace.specs.Program.{keptBy, printedBy}

@@ -3,8 +3,8 @@ use Prim.Native.Nat.{ℕ, _/_, min}
 use mathlib.Core.List.{List, [], map}
 use lib.ListN.{length, take}
 use lib.Seq.{sets}
-use Rattle.model.specs.Tools.{pick}
-use Rattle.model.specs.Runs.{answersOf, eventsOf, wordsOf}
+use Rattle.rules.specs.Tools.{pick}
+use Rattle.rules.specs.Runs.{answersOf, eventsOf, wordsOf}
 use Rattle.text.specs.Lines.{linesOf, passedBy}
 use Rattle.text.specs.Chunks.{markOf, wordsIn}
 use Rattle.trace.specs.declared.kept.Kept.{Kept}

@@ -4,10 +4,10 @@ use mathlib.Core.Bool.{true}
 use mathlib.Core.List.{List}
 use lib.Dec.{eqb}
 use lib.ListN.{length, getD}
-use Rattle.model.specs.declared.states.State.{State}
-use Rattle.model.specs.declared.events.Stepped.{Stepped}
-use Rattle.model.specs.Tools.{pick}
-use Rattle.model.specs.Fresh.{zeroState, startOf}
+use Rattle.rules.specs.declared.states.State.{State}
+use Rattle.rules.specs.declared.events.Stepped.{Stepped}
+use Rattle.rules.specs.Tools.{pick}
+use Rattle.rules.specs.Fresh.{zeroState, startOf}
 use Rattle.trace.specs.declared.kept.Kept.{Kept}
 use Rattle.trace.specs.Program.{unreadable}
 use Rattle.trace.specs.Chunks.{Lent}

@@ -4,13 +4,13 @@ use mathlib.Core.Bool.{true, false}
 use mathlib.Core.List.{List, [], _∷_, _++_}
 use mathlib.Core.Option.{Option, none, some}
 use lib.ListN.{getD}
-use Rattle.model.specs.declared.states.State.{State}
-use Rattle.model.specs.declared.events.Answer.{Answer}
-use Rattle.model.specs.declared.events.Stepped.{Stepped}
-use Rattle.model.specs.Tools.{pick}
-use Rattle.model.specs.Fresh.{zeroState, startOf}
-use Rattle.model.specs.Effects.{stepOf}
-use Rattle.model.specs.Runs.{eventOf}
+use Rattle.rules.specs.declared.states.State.{State}
+use Rattle.rules.specs.declared.events.Answer.{Answer}
+use Rattle.rules.specs.declared.events.Stepped.{Stepped}
+use Rattle.rules.specs.Tools.{pick}
+use Rattle.rules.specs.Fresh.{zeroState, startOf}
+use Rattle.rules.specs.Effects.{stepOf}
+use Rattle.rules.specs.Runs.{eventOf}
 use Rattle.text.specs.Lines.{linesOf}
 use Rattle.text.specs.Reading.{numbersOf, exactly}
 use Rattle.text.specs.Writing.{answerText}

@@ -2,7 +2,7 @@
 use crate::arriving::least;
 use crate::kept::Advanced;
 use crate::kept::Kept;
-use model::states::State;
+use rules::states::State;
 ghost use mathlib.Core.Path.{_≡_};
 ghost use Rattle.trace.specs.Chunks.{lent, advanced, lentAfter};
 ghost use Rattle.trace.specs.Parts.{running};

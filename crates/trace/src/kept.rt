@@ -1,5 +1,5 @@
 // What is kept between lines.
-use model::states::State;
+use rules::states::State;
 
 // Whether the start line was read, and the state.
 pub struct Kept {

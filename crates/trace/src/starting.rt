@@ -1,8 +1,8 @@
 // Before the first line, and the first line.
 use crate::kept::Advanced;
 use crate::kept::Kept;
-use model::events::Answer;
-use model::events::Stepped;
+use rules::events::Answer;
+use rules::events::Stepped;
 ghost use mathlib.Core.Bool.{false};
 ghost use mathlib.Core.Path.{_≡_};
 ghost use mathlib.Core.List.{[]};

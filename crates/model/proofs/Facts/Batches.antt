@@ -8,10 +8,10 @@ use lib.ListN.{length, getD, drop, replicate}
 use lib.Seq.{sets, sets-eq}
 use borrow.Author.Tests.{eq-eqb, ne-eqb, lt-ltb, le-ltb}
 use Rattle.model.specs.Types.{State, Event, Answer, Stepped, Batched}
-use Rattle.model.specs.WellFormed.{wellFormed}
-use Rattle.model.specs.Refusals.{refusal, table, given}
-use Rattle.model.specs.Effects.{answer, answered, stepOf}
-use Rattle.model.specs.Runs.{runOf, answersOf, wordsOf, eventsTo, eventsOf, countOf, batchNumber, batchOf, batchAnswers}
+use Rattle.rules.specs.WellFormed.{wellFormed}
+use Rattle.rules.specs.Refusals.{refusal, table, given}
+use Rattle.rules.specs.Effects.{answer, answered, stepOf}
+use Rattle.rules.specs.Runs.{runOf, answersOf, wordsOf, eventsTo, eventsOf, countOf, batchNumber, batchOf, batchAnswers}
 use Rattle.model.specs.Words.{batchedOf}
 use Rattle.model.proofs.Facts.Running.{refusals}
 

@@ -7,13 +7,13 @@ use native.Mathlib.Omega.{arith}
 use lib.Dec.{eqb, leb, ltb}
 use borrow.Author.Tests.{lt-ltb, ltb-true, ltb-false, leb-false, ne-eqb}
 use Rattle.model.specs.Types.{Cell, Sizes, State, Event}
-use Rattle.model.specs.Tools.{pick}
-use Rattle.model.specs.States.{cellAt, serialAt}
-use Rattle.model.specs.WellFormed.{wellFormed}
-use Rattle.model.specs.Refusals.{Row, row, given, table, refusal, slotted, cellOf, freeAt, lowestFree, unborne, next, copyless}
-use Rattle.model.specs.Rows.{cellRows, cellRefusal, sendRefusal}
-use Rattle.model.proofs.Laws.Bools.{clash, split, and-both}
-use Rattle.model.proofs.Keeps.Accepted.{by-kind, numbered}
+use Rattle.rules.specs.Tools.{pick}
+use Rattle.rules.specs.States.{cellAt, serialAt}
+use Rattle.rules.specs.WellFormed.{wellFormed}
+use Rattle.rules.specs.Refusals.{Row, row, given, table, refusal, slotted, cellOf, freeAt, lowestFree, unborne, next, copyless}
+use Rattle.parts.specs.Rows.{cellRows, cellRefusal, sendRefusal}
+use Rattle.rules.proofs.Laws.Bools.{clash, split, and-both}
+use Rattle.rules.proofs.Keeps.Accepted.{by-kind, numbered}
 
 -- rows before others
 pub given-onto : (rs rest : List Row) → numbered rs ≡ true → given (rs ++ rest) ≡ pick (eqb (given rs) 0) (given rest) (given rs)

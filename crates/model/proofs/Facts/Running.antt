@@ -8,14 +8,14 @@ use native.Mathlib.Numerals.{add-one, add-two}
 use lib.ListN.{length, take, drop, replicate, length-set}
 use lib.Seq.{sets, drop-drop, getD-take}
 use Rattle.model.specs.Types.{Sizes, State, Event, Answer}
-use Rattle.model.specs.WellFormed.{wellFormed}
-use Rattle.model.specs.Effects.{answer, stepOf}
-use Rattle.model.specs.Runs.{runOf, answersOf, wordsOf, eventOf, eventsTo}
-use Rattle.model.specs.Tags.{Tagged}
+use Rattle.rules.specs.WellFormed.{wellFormed}
+use Rattle.rules.specs.Effects.{answer, stepOf}
+use Rattle.rules.specs.Runs.{runOf, answersOf, wordsOf, eventOf, eventsTo}
+use Rattle.parts.specs.Tags.{Tagged}
 use Rattle.model.specs.Words.{answerSet}
-use Rattle.model.proofs.Laws.Views.{Sized}
-use Rattle.model.proofs.Keeps.Shapes.{step-keeps-sized, step-keeps-sizes}
-use Rattle.model.proofs.Keeps.Steps.{step-keeps-well-formed}
+use Rattle.rules.proofs.Laws.Views.{Sized}
+use Rattle.rules.proofs.Keeps.Shapes.{step-keeps-sized, step-keeps-sizes}
+use Rattle.rules.proofs.Keeps.Steps.{step-keeps-well-formed}
 use Rattle.model.proofs.Facts.Turns.{Turned}
 
 -- an event read from the part of the words that holds it

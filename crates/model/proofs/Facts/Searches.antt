@@ -9,15 +9,15 @@ use lib.ListN.{getD, set}
 use native.Mathlib.Decide.{ℕ-discrete}
 use borrow.Author.Tests.{ltb-true, ltb-false, lt-ltb, le-ltb, eq-eqb, ne-eqb}
 use Rattle.model.specs.Types.{Cell, MessageKind, Free, Tokens, OwnershipAck, DeletionAck, State}
-use Rattle.model.specs.Tools.{pick, firstTo, fillTo}
-use Rattle.model.specs.States.{slotAt, isFree, bears}
-use Rattle.model.specs.WellFormed.{wellFormed}
-use Rattle.model.specs.Refusals.{freeAt, lowest, copyless, lowestFree, unborne}
-use Rattle.model.specs.Effects.{wordFor, afterRecreation}
-use Rattle.model.specs.Tags.{tagOf, Tagged, firstUntagged, absent, slotRefusal}
-use Rattle.model.proofs.Laws.Bools.{split}
-use Rattle.model.proofs.Keeps.Well.{well-address}
-use Rattle.model.proofs.Facts.Loops.{all-same}
+use Rattle.rules.specs.Tools.{pick, firstTo, fillTo}
+use Rattle.rules.specs.States.{slotAt, isFree, bears}
+use Rattle.rules.specs.WellFormed.{wellFormed}
+use Rattle.rules.specs.Refusals.{freeAt, lowest, copyless, lowestFree, unborne}
+use Rattle.rules.specs.Effects.{wordFor, afterRecreation}
+use Rattle.parts.specs.Tags.{tagOf, Tagged, firstUntagged, absent, slotRefusal}
+use Rattle.rules.proofs.Laws.Bools.{split}
+use Rattle.rules.proofs.Keeps.Well.{well-address}
+use Rattle.rules.proofs.Facts.Loops.{all-same}
 
 pub first-same : (k : ℕ) {p q : ℕ → Bool} → ((i : ℕ) → i < k → p i ≡ q i) → firstTo k p ≡ firstTo k q
 unfolding firstTo

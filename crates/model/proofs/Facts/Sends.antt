@@ -9,20 +9,20 @@ use lib.Dec.{eqb, leb, ltb}
 use lib.ListN.{length, getD, set, length-set}
 use borrow.Author.Tests.{ltb-false, leb-false, eqb-false}
 use Rattle.model.specs.Types.{Cell, Tokens, Message, Sizes, State, Event, Answer}
-use Rattle.model.specs.Cells.{zeroCell}
-use Rattle.model.specs.States.{serialAt, withCell, withSlot}
-use Rattle.model.specs.WellFormed.{wellFormed}
-use Rattle.model.specs.Refusals.{refusal, given, slotted, cellOf, lowestFree}
-use Rattle.model.specs.Effects.{answer, sentCell, sentMessage, sendOf, effect}
-use Rattle.model.specs.Rows.{sendRows, sendRefusal}
-use Rattle.model.specs.Needs.{Sendable}
-use Rattle.model.specs.Places.{Within, Placed}
-use Rattle.model.specs.Tags.{tagOf, Tagged, firstUntagged}
-use Rattle.model.proofs.Laws.Bools.{split, or-left, or-right}
-use Rattle.model.proofs.Laws.Views.{Sized}
-use Rattle.model.proofs.Keeps.Accepted.{numbered, Clear, clear}
-use Rattle.model.proofs.Keeps.Numbers.{step-effect}
-use Rattle.model.proofs.Keeps.Well.{well-sizes}
+use Rattle.rules.specs.Cells.{zeroCell}
+use Rattle.rules.specs.States.{serialAt, withCell, withSlot}
+use Rattle.rules.specs.WellFormed.{wellFormed}
+use Rattle.rules.specs.Refusals.{refusal, given, slotted, cellOf, lowestFree}
+use Rattle.rules.specs.Effects.{answer, sentCell, sentMessage, sendOf, effect}
+use Rattle.parts.specs.Rows.{sendRows, sendRefusal}
+use Rattle.parts.specs.Needs.{Sendable}
+use Rattle.parts.specs.Places.{Within, Placed}
+use Rattle.parts.specs.Tags.{tagOf, Tagged, firstUntagged}
+use Rattle.rules.proofs.Laws.Bools.{split, or-left, or-right}
+use Rattle.rules.proofs.Laws.Views.{Sized}
+use Rattle.rules.proofs.Keeps.Accepted.{numbered, Clear, clear}
+use Rattle.rules.proofs.Keeps.Numbers.{step-effect}
+use Rattle.rules.proofs.Keeps.Well.{well-sizes}
 use Rattle.model.proofs.Facts.Numbers.{send-number}
 use Rattle.model.proofs.Facts.Searches.{free-found}
 use Rattle.model.proofs.Facts.Turns.{Turned, turn-of, tag-set, refused-turn, loaded, named}

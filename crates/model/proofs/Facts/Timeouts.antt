@@ -7,22 +7,22 @@ use native.Mathlib.Omega.{arith}
 use lib.Dec.{eqb}
 use lib.ListN.{length, getD, set}
 use Rattle.model.specs.Types.{Serial, Cell, Tokens, Sizes, State, Event, Answer}
-use Rattle.model.specs.Tools.{fillTo}
-use Rattle.model.specs.Cells.{zeroCell}
-use Rattle.model.specs.States.{cellAt, serialAt, withCells, withSerial}
-use Rattle.model.specs.WellFormed.{wellFormed}
-use Rattle.model.specs.Refusals.{refusal, row, given, slotted, cellOf, next, unborne, copyless}
-use Rattle.model.specs.Effects.{answer, wordFor, afterRecreation, recreateOf, effect}
-use Rattle.model.specs.Rows.{cellRows, cellRefusal}
-use Rattle.model.specs.Places.{Within, Placed}
-use Rattle.model.specs.Nines.{nth, renewalRefusal, renewedOf}
-use Rattle.model.specs.Tags.{tagOf, Tagged, absent}
-use Rattle.model.proofs.Laws.Bools.{by-pick}
-use Rattle.model.proofs.Laws.Views.{Sized}
-use Rattle.model.proofs.Keeps.Accepted.{numbered, by-kind}
-use Rattle.model.proofs.Keeps.Numbers.{step-effect}
-use Rattle.model.proofs.Keeps.Well.{well-sizes, well-serial}
-use Rattle.model.proofs.Facts.Loops.{fill-more}
+use Rattle.rules.specs.Tools.{fillTo}
+use Rattle.rules.specs.Cells.{zeroCell}
+use Rattle.rules.specs.States.{cellAt, serialAt, withCells, withSerial}
+use Rattle.rules.specs.WellFormed.{wellFormed}
+use Rattle.rules.specs.Refusals.{refusal, row, given, slotted, cellOf, next, unborne, copyless}
+use Rattle.rules.specs.Effects.{answer, wordFor, afterRecreation, recreateOf, effect}
+use Rattle.parts.specs.Rows.{cellRows, cellRefusal}
+use Rattle.parts.specs.Places.{Within, Placed}
+use Rattle.parts.specs.Nines.{nth, renewalRefusal, renewedOf}
+use Rattle.parts.specs.Tags.{tagOf, Tagged, absent}
+use Rattle.rules.proofs.Laws.Bools.{by-pick}
+use Rattle.rules.proofs.Laws.Views.{Sized}
+use Rattle.rules.proofs.Keeps.Accepted.{numbered, by-kind}
+use Rattle.rules.proofs.Keeps.Numbers.{step-effect}
+use Rattle.rules.proofs.Keeps.Well.{well-sizes, well-serial}
+use Rattle.rules.proofs.Facts.Loops.{fill-more}
 use Rattle.model.proofs.Facts.Numbers.{given-onto, timeout-number}
 use Rattle.model.proofs.Facts.Searches.{fill-same, copyless-same, word-same, after-same, absent-is}
 use Rattle.model.proofs.Facts.Turns.{Turned, turn-of, refused-turn, cell-refusal-is, within}

@@ -10,22 +10,22 @@ use lib.ListN.{length, getD, set, length-set}
 use lib.Seq.{getD-set-same, getD-set-other}
 use borrow.Author.Tests.{ne-eqb, ltb-true, ltb-false}
 use Rattle.model.specs.Types.{Cell, MessageKind, Free, Tokens, OwnershipAck, DeletionAck, Message, Sizes, State, Event, Answer, Stepped}
-use Rattle.model.specs.declared.changes.SlotChange.{SlotChange}
-use Rattle.model.specs.Tools.{pick}
-use Rattle.model.specs.Cells.{zeroCell}
-use Rattle.model.specs.States.{freeMessage, cellAt, slotAt, serialAt, withCell, withSlot, isFree}
-use Rattle.model.specs.WellFormed.{wellFormed}
-use Rattle.model.specs.Refusals.{refusal, reading, slotted, cellOf, freeAt}
-use Rattle.model.specs.Effects.{answer, answered, target, landed, emptied, arrive, deliverOf, readOf, writeOf, wantOf, effect, stepOf}
-use Rattle.model.specs.Rows.{cellRows, cellRefusal}
-use Rattle.model.specs.Changes.{wantedBy, touchedCell, discarded, ownershipAcked, deletionAcked, arriveBy, arriveOf, lost, replyOf}
-use Rattle.model.specs.Places.{Within, Placed}
-use Rattle.model.specs.Tags.{tagOf, slotTag, Tagged, slotRefusal}
-use Rattle.model.proofs.Laws.Bools.{clash, split}
-use Rattle.model.proofs.Laws.Views.{Sized, same-cell}
-use Rattle.model.proofs.Keeps.Accepted.{by-kind, numbered}
-use Rattle.model.proofs.Keeps.Numbers.{step-effect, step-refused}
-use Rattle.model.proofs.Keeps.Well.{well-sizes, well-address, well-tokens, well-count}
+use Rattle.parts.specs.declared.changes.SlotChange.{SlotChange}
+use Rattle.rules.specs.Tools.{pick}
+use Rattle.rules.specs.Cells.{zeroCell}
+use Rattle.rules.specs.States.{freeMessage, cellAt, slotAt, serialAt, withCell, withSlot, isFree}
+use Rattle.rules.specs.WellFormed.{wellFormed}
+use Rattle.rules.specs.Refusals.{refusal, reading, slotted, cellOf, freeAt}
+use Rattle.rules.specs.Effects.{answer, answered, target, landed, emptied, arrive, deliverOf, readOf, writeOf, wantOf, effect, stepOf}
+use Rattle.parts.specs.Rows.{cellRows, cellRefusal}
+use Rattle.parts.specs.Changes.{wantedBy, touchedCell, discarded, ownershipAcked, deletionAcked, arriveBy, arriveOf, lost, replyOf}
+use Rattle.parts.specs.Places.{Within, Placed}
+use Rattle.parts.specs.Tags.{tagOf, slotTag, Tagged, slotRefusal}
+use Rattle.rules.proofs.Laws.Bools.{clash, split}
+use Rattle.rules.proofs.Laws.Views.{Sized, same-cell}
+use Rattle.rules.proofs.Keeps.Accepted.{by-kind, numbered}
+use Rattle.rules.proofs.Keeps.Numbers.{step-effect, step-refused}
+use Rattle.rules.proofs.Keeps.Well.{well-sizes, well-address, well-tokens, well-count}
 use Rattle.model.proofs.Facts.Numbers.{above-number, slot-number, cell-number, timeout-number, given-stops, cell-same, cell-within}
 use Rattle.model.proofs.Facts.Searches.{slot-refusal, slot-near, slot-busy}
 

@@ -1,16 +1,16 @@
 use lib.ListN.{length, getD, length-set, drop}
 use lib.Dec.{eqb}
-use Rattle.model.specs.Tools.{fillTo}
-use Rattle.model.specs.Cells.{zeroCell}
-use Rattle.model.specs.States.{withCells}
-use Rattle.model.specs.Nines.{nth, renewedOf}
-use Rattle.model.proofs.Facts.Loops.{fill-none}
-use Rattle.model.proofs.Facts.Tables.{table-more}
+use Rattle.rules.specs.Tools.{fillTo}
+use Rattle.rules.specs.Cells.{zeroCell}
+use Rattle.rules.specs.States.{withCells}
+use Rattle.parts.specs.Nines.{nth, renewedOf}
+use Rattle.rules.proofs.Facts.Loops.{fill-none}
+use Rattle.rules.proofs.Facts.Tables.{table-more}
 use Rattle.model.proofs.Facts.Searches.{slot-near}
 use Rattle.model.proofs.Facts.Timeouts.{renewal-refused, renewal-turn, fill-cells}
 use Rattle.model.proofs.Facts.Sends.{sendable, slot-found, send-turn, send-refused}
 use Rattle.model.proofs.Facts.Turns.{Turned, same-turn, above-turn, slot-refused, slot-turn, cell-refused, touch-turn, arrivable}
-use Rattle.model.proofs.Facts.Renewals.{mapped-long}
+use Rattle.parts.proofs.Facts.Renewals.{mapped-long}
 use Rattle.model.proofs.Facts.Running.{Running, begins, goes-on, ends, event-part}
 use mathlib.Core.Logic.{⊎-elim}
 use mathlib.Core.Path.{_≡_, refl, _∙_, ap}

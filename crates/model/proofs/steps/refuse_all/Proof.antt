@@ -1,7 +1,7 @@
 use lib.ListN.{length-set}
 use Rattle.model.proofs.Facts.Running.{refuse-begins, refuse-more, refuse-ends}
-use Rattle.model.specs.Runs.{wordsOf}
-use Rattle.model.specs.Effects.{answer}
+use Rattle.rules.specs.Runs.{wordsOf}
+use Rattle.rules.specs.Effects.{answer}
 use lib.Seq.{sets}
 use lib.ListN.{length, replicate}
 use mathlib.Core.Path.{_≡_, refl, _∙_, ap}

@@ -1,5 +1,5 @@
 use Rattle.model.proofs.Facts.Batches.{ill-ran}
-use Rattle.model.proofs.Facts.Bools.{told}
+use Rattle.rules.proofs.Facts.Bools.{told}
 use native.Mathlib.Omega.{arith}
 use borrow.Author.Needs.{needs}
 use Rattle.model.proofs.steps.run_any.Statement.{statement}

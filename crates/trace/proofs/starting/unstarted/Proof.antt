@@ -1,8 +1,8 @@
 use mathlib.Core.Path.{ap, _∙_}
 use Rattle.trace.proofs.Starts.{zero-start}
 use mathlib.Core.Bool.{false}
-use Rattle.model.specs.declared.states.State.{State}
-use Rattle.model.specs.declared.events.Stepped.{Stepped}
+use Rattle.rules.specs.declared.states.State.{State}
+use Rattle.rules.specs.declared.events.Stepped.{Stepped}
 use borrow.Author.Needs.{needs}
 use Rattle.trace.proofs.starting.unstarted.Statement.{statement}
 use Rattle.trace.proofs.starting.unstarted.Tie as tie

@@ -1,0 +1,66 @@
+-- The rows of the table as the code works them out. Assumes nothing.
+use Prim.Native.Nat.{ℕ}
+use mathlib.Core.Bool.{Bool, true, false, not, _||_}
+use mathlib.Core.Path.{_≡_, refl}
+use borrow.Author.Tests.{ne-eqb}
+use Rattle.parts.specs.Types.{Cell}
+use Rattle.rules.specs.Tools.{pick}
+use Rattle.rules.specs.Cells.{isNothing, ableToRead, ableToWrite}
+use Rattle.rules.specs.Refusals.{given}
+use Rattle.parts.specs.Rows.{ownRefusal}
+
+-- a test turned round, also where it is joined to one that fails; one that is joined to tests that fail
+turned : (b : Bool) (n : ℕ) → pick b 0 n ≡ pick (not b || false) n 0
+turned true n = refl
+turned false n = refl
+
+round : (b : Bool) (n : ℕ) → pick b 0 n ≡ pick (not b) n 0
+round true n = refl
+round false n = refl
+
+wanting : (i : Bool) (n m : ℕ) → pick i n m ≡ pick (not i) m n
+wanting true n m = refl
+wanting false n m = refl
+
+joined : (b : Bool) (n : ℕ) → pick b n 0 ≡ pick (b || false || false) n 0
+joined true n = refl
+joined false n = refl
+
+wanted : (i a : Bool) (n m : ℕ) → pick i (pick a n 0) m ≡ pick (not i) m (pick (a || false) n 0)
+wanted true true n m = refl
+wanted true false n m = refl
+wanted false a n m = refl
+
+module _ (k n : ℕ) (x : Cell) where
+  pub own-read : {t : Bool} {r : ℕ} → k ≡ 0 → t ≡ ableToRead x → r ≡ pick t 0 13 → r ≡ ownRefusal k n x
+  unfolding ownRefusal given
+  own-read h f g = rw (g, f, h) (turned (ableToRead x) 13)
+
+  pub own-write : {t : Bool} {r : ℕ} → k ≡ 1 → t ≡ ableToWrite n x → r ≡ pick t 0 13 → r ≡ ownRefusal k n x
+  unfolding ownRefusal given
+  own-write h f g = rw (g, f, h) (round (ableToWrite n x) 13)
+
+  pub own-want-read : {t u : Bool} {r v : ℕ} → k ≡ 5 → u ≡ isNothing (x .want) → t ≡ ableToRead x → v ≡ pick t 15 0 → r ≡ pick u v 14 → r ≡ ownRefusal k n x
+  unfolding ownRefusal given
+  own-want-read h i f g j = rw (j, g, f, i, h) (wanted (isNothing (x .want)) (ableToRead x) 15 14)
+
+  pub own-want-write : {t u : Bool} {r v : ℕ} → k ≡ 6 → u ≡ isNothing (x .want) → t ≡ ableToWrite n x → v ≡ pick t 15 0 → r ≡ pick u v 14 → r ≡ ownRefusal k n x
+  unfolding ownRefusal given
+  own-want-write h i f g j = rw (j, g, f, i, h) (wanting (isNothing (x .want)) (pick (ableToWrite n x) 15 0) 14)
+
+  pub own-lost-token : {u : Bool} {r : ℕ} → k ≡ 7 → u ≡ isNothing (x .want) → r ≡ pick u 16 0 → r ≡ ownRefusal k n x
+  unfolding ownRefusal given
+  own-lost-token h i g = rw (g, i, h) (joined (isNothing (x .want)) 16)
+
+  pub own-lost-data : {r : ℕ} → k ≡ 8 → r ≡ pick (x .backup) 0 16 → r ≡ ownRefusal k n x
+  unfolding ownRefusal given
+  own-lost-data h g = rw (g, h) (turned (x .backup) 16)
+
+  pub own-lost-ack : {r : ℕ} → k ≡ 9 → r ≡ pick (x .blocked) 0 16 → r ≡ ownRefusal k n x
+  unfolding ownRefusal given
+  own-lost-ack h g = rw (g, h) (round (x .blocked) 16)
+
+pub own-none : (k n : ℕ) (x : Cell) → (k ≡ 0 → ⊥) → (k ≡ 1 → ⊥) → (k ≡ 5 → ⊥) → (k ≡ 6 → ⊥) → (k ≡ 7 → ⊥) → (k ≡ 8 → ⊥) → (k ≡ 9 → ⊥) → 0 ≡ ownRefusal k n x
+unfolding ownRefusal given
+own-none k n x a b c d f g h =
+    rw (ne-eqb k 0 a, ne-eqb k 1 b, ne-eqb k 5 c, ne-eqb k 6 d, ne-eqb k 7 f, ne-eqb k 8 g, ne-eqb k 9 h)

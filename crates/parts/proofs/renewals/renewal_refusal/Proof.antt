@@ -1,0 +1,23 @@
+use Rattle.parts.specs.Nines.{renewalRefusal}
+use Rattle.rules.specs.Refusals.{given}
+use borrow.Author.Needs.{needs}
+use Rattle.parts.proofs.renewals.renewal_refusal.Statement.{statement}
+use Rattle.parts.proofs.renewals.renewal_refusal.Tie as tie
+
+copyless-requires : tie.Need-copyless-requires
+copyless-requires c κs = search needs
+
+either-requires : tie.Need-either-requires
+either-requires c κs = search needs
+
+either-requires-2 : tie.Need-either-requires-2
+either-requires-2 c κs = search needs
+
+returns : tie.Need-returns
+unfolding renewalRefusal given
+returns c = cc
+
+pub renewal-refusal-spec : {M : Type 1} → statement M
+renewal-refusal-spec =
+    tie.close
+    (tie.spec copyless-requires either-requires either-requires-2 returns)

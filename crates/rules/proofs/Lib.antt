@@ -1,0 +1,4 @@
+pub mod Laws
+pub mod Keeps
+pub mod Facts
+pub mod Thirteen

@@ -1,0 +1,10 @@
+pub mod Types
+pub mod Tools
+pub mod Cells
+pub mod States
+pub mod WellFormed
+pub mod Fresh
+pub mod Refusals
+pub mod Effects
+pub mod Runs
+pub mod Tallies

@@ -1,0 +1,11 @@
+use Rattle.rules.proofs.Facts.Bools.{every-is}
+use Rattle.rules.specs.WellFormed.{sizesFine}
+use Rattle.whole.proofs.checks.sizes_fine.Statement.{statement}
+use Rattle.whole.proofs.checks.sizes_fine.Tie as tie
+
+returns : tie.Need-returns
+unfolding sizesFine
+returns c = every-is _
+
+pub sizes-fine-spec : {M : Type 1} → statement M
+sizes-fine-spec = tie.close (tie.spec returns)

@@ -1,0 +1,6 @@
+mod checks;
+mod starts;
+mod tallies;
+
+pub use starts::start;
+pub use tallies::well_formed;
