@@ -9,18 +9,19 @@ use lib.ListN.{length, getD}
 use Rattle.coherence.specs.Types.{State, Event, Answer, Stepped}
 use Rattle.coherence.specs.Histories.{after, answers}
 use Rattle.rules.specs.Fresh.{startOf}
-use Rattle.rules.specs.Refusals.{reading, cellOf, table, refusal}
+use Rattle.rules.specs.Refusals.{reading, cellOf, tableOf, refusal}
 use Rattle.rules.specs.Effects.{answer, readOf, effect, stepOf}
 use Rattle.rules.specs.Runs.{lastWrite}
 use Rattle.rules.proofs.Keeps.Cells.{able-read}
 use Rattle.rules.proofs.Keeps.Well.{Well, place}
-use Rattle.rules.proofs.Keeps.Accepted.{Clear, accepted, caches, reads}
+use Rattle.rules.proofs.Laws.Rows.{Clear}
+use Rattle.rules.proofs.Keeps.Accepted.{accepted, caches, reads}
 use Rattle.rules.proofs.Keeps.Numbers.{step-number, step-effect}
 use Rattle.coherence.proofs.Invariant.{Held}
 use Rattle.coherence.proofs.Runs.{good, answer-at, last-before}
 
 -- a read that is not refused answers the last word
-read-effect : (s : State) (W : ℕ → ℕ) → Well s → Held s W → (e : Event) → Clear (table s e 0)
+read-effect : (s : State) (W : ℕ → ℕ) → Well s → Held s W → (e : Event) → Clear (tableOf s e 0)
     → effect s e 0 .answer .word ≡ W (e .line)
 unfolding effect readOf Held
 read-effect s W w h e c =
@@ -33,7 +34,7 @@ read-word : (s : State) (W : ℕ → ℕ) → Well s → Held s W → (e : Event
 read-word s W w h e k a =
     let k0 = eqb-true (e .kind) 0 k in
     ap (λ (r : Stepped). r .answer .word) (step-effect s e a ∙ ap (effect s e) k0)
-    ∙ read-effect s W w h e (subst (λ q. Clear (table s e q)) k0 (accepted s e a))
+    ∙ read-effect s W w h e (subst (λ q. Clear (tableOf s e q)) k0 (accepted s e a))
 
 -- among the answers to the whole list
 pub read-at : (c l n : ℕ) → startOf c l n .answer .number ≡ 0 → (before : List Event) (e : Event) (rest : List Event)

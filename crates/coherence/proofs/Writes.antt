@@ -11,7 +11,7 @@ use Rattle.rules.specs.Tools.{pick}
 use Rattle.rules.specs.States.{cellAt, slotAt, serialAt, withCell}
 use Rattle.rules.specs.WellFormed.{counted, inCells, inMessages, held, borne, tokensOf}
 use Rattle.rules.specs.Cells.{written}
-use Rattle.rules.specs.Refusals.{cellOf, table}
+use Rattle.rules.specs.Refusals.{cellOf, tableOf}
 use Rattle.rules.specs.Effects.{writeOf}
 use Rattle.rules.proofs.Laws.Bools.{bit-of}
 use Rattle.rules.proofs.Laws.Sums.{sum-le, sum-two}
@@ -20,7 +20,8 @@ use Rattle.rules.proofs.Laws.Bears.{alike, counts, counted-mono, cell-share, me
 use Rattle.rules.proofs.Keeps.Cells.{Able, able-write}
 use Rattle.rules.proofs.Keeps.Messages.{tokened}
 use Rattle.rules.proofs.Keeps.Well.{Well, place, marks, slot-sort}
-use Rattle.rules.proofs.Keeps.Accepted.{Clear, caches, writes}
+use Rattle.rules.proofs.Laws.Rows.{Clear}
+use Rattle.rules.proofs.Keeps.Accepted.{caches, writes}
 use Rattle.rules.proofs.Keeps.Changes.{cell-change}
 use Rattle.coherence.proofs.Invariant.{passed, Has, Carries, Kept, Held}
 use Rattle.coherence.proofs.Changes.{kept-other, moved}
@@ -84,7 +85,7 @@ module _ {s : State} (w : Well s) (l n : ℕ) (hl : l < s .sizes .lines) (hn : n
       }
 
 -- every line is kept, the line written with the new word
-pub write-held : {s : State} (z : Sized s) (w : Well s) (e : Event) → Clear (table s e 1) → (W : ℕ → ℕ) → Held s W
+pub write-held : {s : State} (z : Sized s) (w : Well s) (e : Event) → Clear (tableOf s e 1) → (W : ℕ → ℕ) → Held s W
     → Held (writeOf s e .state) (λ j. pick (eqb (e .line) j) (e .word) (W j))
 unfolding writeOf Held
 write-held {s} z w e c W h k hk =

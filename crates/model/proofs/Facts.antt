@@ -1,6 +1,9 @@
 pub mod Numbers
-pub mod Turns
+pub mod Places
 pub mod Searches
+pub mod Turns
+pub mod Slots
+pub mod Cells
 pub mod Sends
 pub mod Timeouts
 pub mod Running

@@ -22,7 +22,7 @@ fn refuse_all(n: usize, answers: &mut [u32])
 {
     let mut i: usize = 0;
     while i < n {
-        put(answers, i * 3, answer(1, 0, 64));
+        put(answers, i * 3, 1, 0, 64);
         i += 1;
     }
 }

@@ -1,13 +1,13 @@
--- What the places are known to be; cited by private functions alone. Assumes nothing.
-use Prim.Native.Nat.{ℕ, _+_, _*_, _<_}
-use mathlib.Core.Path.{_≡_}
+-- Where the parts of a state stand in their arrays. Assumes nothing.
+use Prim.Native.Nat.{ℕ, _+_, _*_}
+use mathlib.Core.Bool.{_&&_}
+use lib.Dec.{ltb}
+use Rattle.rules.specs.Tools.{pick}
 
--- a number below the bound, which is x if x is
-pub record Within (bound x r : ℕ) : Type 0 where
-  pub below : r < bound
-  pub same : x < bound → r ≡ x
+-- the place of a line's serial; that of line 0 where there is no such line
+unfoldable pub rowOf : ℕ → ℕ
+rowOf line = pick (ltb line 16) line 0
 
--- a cell's place, which is that of the line and the node if there is one
-pub record Placed (line node r : ℕ) : Type 0 where
-  pub below : r < 144
-  pub same : line < 16 → node < 9 → r ≡ line * 9 + node
+-- the place of a node's cell of a line; the first where there is no such cell
+unfoldable pub placeOf : ℕ → ℕ → ℕ
+placeOf line node = pick (ltb line 16 && ltb node 9) (line * 9 + node) 0

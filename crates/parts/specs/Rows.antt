@@ -1,41 +1,53 @@
--- The rows of the table that can apply to an event, by what it names, over the parts of the state that they read; cited by private functions alone. Assumes nothing.
+-- The number of an event from the parts that it names: the table, over what these parts show. Assumes nothing.
 use Prim.Native.Nat.{ℕ}
-use mathlib.Core.Bool.{not, _&&_, _||_}
+use mathlib.Core.Bool.{Bool, true, false, _||_}
 use mathlib.Core.List.{List, [], _∷_}
-use lib.Dec.{eqb, leb, ltb}
+use lib.Dec.{eqb, ltb}
+use lib.ListN.{getD}
 use Rattle.parts.specs.Types.{Cell, Sizes, Event}
-use Rattle.rules.specs.Refusals.{Row, row, ownRows, given, forCaches}
+use Rattle.rules.specs.Tools.{pick}
+use Rattle.rules.specs.Cells.{zeroCell}
+use Rattle.rules.specs.Fresh.{sizes}
+use Rattle.rules.specs.Refusals.{Row, Seen, sight, table, given, slotted, sending}
+use Rattle.parts.specs.Nines.{nth}
 
--- the cell's own refusals: the smallest of 13 to 16 that an event of kind k has from the cell x alone
-unfoldable pub ownRefusal : ℕ → ℕ → Cell → ℕ
-ownRefusal k n x = given (ownRows k n x [])
+-- the rows before number n, and those from n on
+unfoldable pub before : ℕ → List Row → List Row
+before n [] = []
+before n (r ∷ rs) = pick (ltb (r .number) n) (r ∷ before n rs) []
 
--- an event of kind k that names a line and a node whose cell is x, and is no send
-abbrev pub cellRows : Sizes → Event → ℕ → Cell → List Row → List Row
-cellRows z e k x rest =
-    row 3 (leb (z .lines) (e .line))
-    ∷ row 4 (ltb (z .caches) (e .node))
-    ∷ row 5 (forCaches k && eqb (e .node) (z .caches))
-    ∷ ownRows k (z .total .0) x rest
+unfoldable pub from : ℕ → List Row → List Row
+from n [] = []
+from n (r ∷ rs) = pick (ltb (r .number) n) (from n rs) (r ∷ rs)
 
--- its number
-unfoldable pub cellRefusal : Sizes → Event → ℕ → Cell → ℕ
-cellRefusal z e k x = given (cellRows z e k x [])
+-- what is seen of a slot: whether it is free
+abbrev pub slotSight : Bool → Seen
+slotSight b = sight true (sizes 0 0 0) zeroCell b 0 false (λ _. zeroCell)
 
--- a send, of the sender's cell x, with the lowest free slot i
-abbrev pub sendRows : Sizes → Event → Cell → ℕ → List Row
-sendRows z e x i =
-    row 2 (ltb 1 (e .owner) || ltb 1 (e .full))
-    ∷ row 3 (leb (z .lines) (e .line))
-    ∷ row 4 (ltb (z .caches) (e .node) || ltb (z .caches) (e .other))
-    ∷ row 7 (eqb (e .node) (e .other))
-    ∷ row 8 (eqb (e .amount) 0 || ltb (x .tokens .0) (e .amount) || not (eqb (e .owner) 1) && x .owner && eqb (e .amount) (x .tokens .0))
-    ∷ row 9 (eqb (e .owner) 1 && not (x .owner) || eqb (e .owner) 1 && not (eqb (e .full) 1))
-    ∷ row 10 (eqb (e .owner) 1 && x .blocked)
-    ∷ row 11 (eqb (e .full) 1 && not (x .valid))
-    ∷ row 12 (eqb i 64)
-    ∷ []
+-- a delivery, or a drop, which has the same number; `tags` has 0 for each free slot
+unfoldable pub slotRefusal : List ℕ → Event → ℕ
+slotRefusal tags e = given (table (slotSight (eqb (getD tags (e .amount) 0) 0)) e 3)
 
--- its number
+-- what is seen of a cell x, with the lowest free slot i
+abbrev pub cellSight : Sizes → Cell → ℕ → Seen
+cellSight z x i = sight true z x false i false (λ _. zeroCell)
+
+-- a send
 unfoldable pub sendRefusal : Sizes → Event → Cell → ℕ → ℕ
-sendRefusal z e x i = given (sendRows z e x i)
+sendRefusal z e x i = given (table (cellSight z x i) e 2)
+
+-- what an event of kind k has from the cell x alone: 13 to 16
+unfoldable pub ownRefusal : Event → ℕ → ℕ → Cell → ℕ
+ownRefusal e k n x = given (from 13 (before 17 (table (cellSight (sizes 0 0 n) x 0) e k)))
+
+-- an event of kind k that names a line and a node: its number up to 16; 0 for one that names a slot and for a send
+unfoldable pub cellRefusal : Sizes → Event → ℕ → Cell → ℕ
+cellRefusal z e k x = pick (slotted k || sending k) 0 (given (before 17 (table (cellSight z x 0) e k)))
+
+-- what is seen of a line: whether a message of it bears the next serial, and its nine cells
+abbrev pub lineSight : Bool → List Cell → Seen
+lineSight borne nine = sight true (sizes 0 0 0) zeroCell false 0 borne (nth nine)
+
+-- a timeout: its number from 17 on; kinds 8 and 9 have the same as kind 7
+unfoldable pub renewalRefusal : Event → Bool → List Cell → ℕ
+renewalRefusal e borne nine = given (from 17 (table (lineSight borne nine) e 7))

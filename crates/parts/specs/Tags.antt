@@ -1,9 +1,9 @@
--- What the slots hold, beside the state; cited by private functions alone. Assumes nothing.
+-- What the slots hold, beside the state. Assumes nothing.
 use Prim.Native.Nat.{ℕ, _+_, _*_, _<_}
 use mathlib.Core.Bool.{Bool, not}
 use mathlib.Core.Path.{_≡_}
 use mathlib.Core.List.{List}
-use lib.Dec.{eqb, ltb}
+use lib.Dec.{eqb}
 use lib.ListN.{getD}
 use Rattle.parts.specs.Types.{MessageKind, Message}
 use Rattle.rules.specs.Tools.{pick, allTo, firstTo}
@@ -28,7 +28,3 @@ firstUntagged tags = firstTo 64 (λ i. eqb (getD tags i 0) 0)
 -- no slot has the tag
 unfoldable pub absent : List ℕ → ℕ → Bool
 absent tags tag = allTo 64 (λ i. not (eqb (getD tags i 0) tag))
-
--- a delivery or a drop: the slot is above 63 or free
-unfoldable pub slotRefusal : List ℕ → ℕ → ℕ
-slotRefusal tags i = pick (ltb i 64) (pick (eqb (getD tags i 0) 0) 6 0) 6

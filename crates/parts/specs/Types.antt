@@ -1,4 +1,4 @@
--- The types of src/, under short names. Assumes nothing.
+-- The types of `rules`, under short names. Assumes nothing.
 pub use Rattle.rules.specs.declared.numbers.Serial.{Serial}
 pub use Rattle.rules.specs.declared.cells.Want.{Want}
 pub use Rattle.rules.specs.declared.cells.Want.the-variants.{Nothing, Read, Write}
@@ -10,5 +10,6 @@ pub use Rattle.rules.specs.declared.states.Sizes.{Sizes}
 pub use Rattle.rules.specs.declared.states.State.{State}
 pub use Rattle.rules.specs.declared.events.Event.{Event}
 pub use Rattle.rules.specs.declared.events.Answer.{Answer}
+pub use Rattle.rules.specs.declared.events.Arrival.{Arrival}
 pub use Rattle.rules.specs.declared.events.Stepped.{Stepped}
 pub use Rattle.rules.specs.declared.events.Batched.{Batched}

@@ -1,30 +1,24 @@
 // What an event leaves in the one cell and the one slot that it touches, and its answer.
 ghost use mathlib.Core.Path.{_≡_};
-ghost use Prim.Native.Nat.{_+_, _≤_, _<_};
-ghost use Rattle.parts.specs.Types.{Tokens as TokenMessage};
+ghost use Prim.Native.Nat.{_+_, _%_, _<_};
+ghost use Rattle.parts.specs.Types.{Tokens as TokenMessage, OwnershipAck, DeletionAck};
 ghost use Rattle.rules.specs.Cells.{fill, received};
 ghost use Rattle.rules.specs.Tools.{when};
-ghost use Rattle.rules.specs.Effects.{answer as answerOf, sentMessage, sentCell};
-ghost use Rattle.parts.specs.Changes.{wantedBy, touchedCell, discarded as discardedOf, ownershipAcked, deletionAcked, arriveBy, arriveOf, lost as lostOf, replyOf};
-ghost use Rattle.parts.specs.Needs.{Sendable};
+ghost use Rattle.rules.specs.States.{freeMessage};
+ghost use Rattle.rules.specs.Effects.{answer as answerOf, sentMessage, sentCell, discarded as discardedOf, arrive as arriveBy, replyOf};
+ghost use Rattle.parts.specs.Changes.{wantedBy, touchedCell, cut, arriveOf, lost as lostOf};
 use rules::cells::Cell;
 use rules::cells::Want;
 use rules::choices::either;
 use rules::empties::free_message;
 use rules::empties::is_free;
 use rules::events::Answer;
+use rules::events::Arrival;
 use rules::events::Event;
 use rules::messages::Message;
 use rules::messages::MessageKind;
 use rules::numbers::Count;
 use rules::numbers::Serial;
-
-// What a delivery or a drop leaves: `reply` is the kind of what then stands in the slot.
-pub struct SlotChange {
-    pub cell: Cell,
-    pub reply: MessageKind,
-    pub answer: Answer,
-}
 
 pub fn answer(number: u32, word: u32, slot: u32) -> Answer
     ensures { λ r. ⌜ r ≡ answerOf number word slot ⌝ }
@@ -54,20 +48,26 @@ pub fn touch(e: Event, x: Cell) -> Cell
     y.wish(want)
 }
 
-// The message that a send puts into the pool.
+// The low byte of a number.
+fn low(x: u32) -> u8
+    ensures { λ r. ⌜ r ≡ x % 256 ⌝ }
+{
+    (x % 256) as u8
+}
+
+// The message that a send puts into the pool, with the low bytes of its numbers.
 pub fn sent_message(e: Event, q: Serial, x: Cell) -> Message
-    requires { ⌜ Sendable e x ⌝ }
-    ensures { λ r. ⌜ r ≡ sentMessage e (q .0) x ⌝ }
+    ensures { λ r. ⌜ r ≡ sentMessage (cut e) (q .0) x ⌝ }
 {
     let full = e.full == 1;
     let word = either(full, x.word, 0);
     Message {
         kind: MessageKind::Tokens,
-        line: e.line as u8,
-        source: e.node as u8,
-        destination: e.other as u8,
+        line: low(e.line),
+        source: low(e.node),
+        destination: low(e.other),
         serial: q,
-        tokens: Count(e.amount as u8),
+        tokens: Count(low(e.amount)),
         owner: e.owner == 1,
         full,
         word,
@@ -76,10 +76,9 @@ pub fn sent_message(e: Event, q: Serial, x: Cell) -> Message
 
 // The sender's cell after a send.
 pub fn sent_cell(e: Event, x: Cell) -> Cell
-    requires { ⌜ e .amount ≤ x .tokens .0 ⌝ }
-    ensures { λ r. ⌜ r ≡ sentCell e x ⌝ }
+    ensures { λ r. ⌜ r ≡ sentCell (cut e) x ⌝ }
 {
-    let amount = Count(e.amount as u8);
+    let amount = Count(low(e.amount));
     if e.owner == 1 {
         let y = x.back_up();
         y.give(amount)
@@ -106,30 +105,30 @@ fn receive(m: Message, x: Cell) -> Cell
     if m.owner { z.block() } else { z }
 }
 
-fn discarded(x: Cell) -> SlotChange
+fn discarded(x: Cell) -> Arrival
     ensures { λ r. ⌜ r ≡ discardedOf x ⌝ }
 {
-    SlotChange {
+    Arrival {
         cell: x,
         reply: MessageKind::Free,
         answer: answer(0, 0, 64),
     }
 }
 
-fn arrive_tokens(n: Count, i: u32, x: Cell, m: Message) -> SlotChange
+fn arrive_tokens(n: Count, i: u32, x: Cell, m: Message) -> Arrival
     requires { ⌜ x .tokens .0 + m .tokens .0 < 256 ⌝ }
     ensures { λ r. ⌜ r ≡ arriveBy (n .0) i x m TokenMessage ⌝ }
 {
     let y = receive(m, x);
     let cell = y.settle(n);
     if m.owner {
-        SlotChange {
+        Arrival {
             cell,
             reply: MessageKind::OwnershipAck,
             answer: answer(0, 1, i),
         }
     } else {
-        SlotChange {
+        Arrival {
             cell,
             reply: MessageKind::Free,
             answer: answer(0, 1, 64),
@@ -138,11 +137,11 @@ fn arrive_tokens(n: Count, i: u32, x: Cell, m: Message) -> SlotChange
 }
 
 // An ownership acknowledgment ends the backup, and is answered.
-fn arrive_ownership_ack(i: u32, x: Cell) -> SlotChange
-    ensures { λ r. ⌜ r ≡ ownershipAcked i x ⌝ }
+fn arrive_ownership_ack(i: u32, x: Cell) -> Arrival
+    ensures { λ r. ⌜ r ≡ arriveBy 0 i x freeMessage OwnershipAck ⌝ }
 {
     if x.backup {
-        SlotChange {
+        Arrival {
             cell: x.drop_backup(),
             reply: MessageKind::DeletionAck,
             answer: answer(0, 1, i),
@@ -153,11 +152,11 @@ fn arrive_ownership_ack(i: u32, x: Cell) -> SlotChange
 }
 
 // A backup deletion acknowledgment ends the block.
-fn arrive_deletion_ack(x: Cell) -> SlotChange
-    ensures { λ r. ⌜ r ≡ deletionAcked x ⌝ }
+fn arrive_deletion_ack(x: Cell) -> Arrival
+    ensures { λ r. ⌜ r ≡ arriveBy 0 0 x freeMessage DeletionAck ⌝ }
 {
     if x.blocked {
-        SlotChange {
+        Arrival {
             cell: x.unblock(),
             reply: MessageKind::Free,
             answer: answer(0, 1, 64),
@@ -168,8 +167,8 @@ fn arrive_deletion_ack(x: Cell) -> SlotChange
 }
 
 // A message of the line's serial is delivered from slot i, by its kind.
-fn arrive(n: Count, i: u32, x: Cell, m: Message) -> SlotChange
-    requires { ⌜ (m .kind ≡ TokenMessage → x .tokens .0 + m .tokens .0 < 256) ⌝ }
+fn arrive(n: Count, i: u32, x: Cell, m: Message) -> Arrival
+    requires { ⌜ x .tokens .0 + m .tokens .0 < 256 ⌝ }
     ensures { λ r. ⌜ r ≡ arriveBy (n .0) i x m (m .kind) ⌝ }
 {
     let kind = m.kind;
@@ -181,20 +180,21 @@ fn arrive(n: Count, i: u32, x: Cell, m: Message) -> SlotChange
     }
 }
 
-// A drop, or a message that is stale.
-fn lost(kind: u32, q: Serial, m: Message) -> bool
-    ensures { λ r. ⌜ r ≡ lostOf kind (q .0) m ⌝ }
+// A drop, or a message that is stale, or one whose count does not fit.
+fn lost(kind: u32, q: Serial, x: Cell, m: Message) -> bool
+    ensures { λ r. ⌜ r ≡ lostOf kind (q .0) x m ⌝ }
 {
     let serial = m.serial;
-    (kind == 4) | !(serial.0 == q.0)
+    let had = x.tokens;
+    let come = m.tokens;
+    (kind == 4) | !(serial.0 == q.0) | !((had.0 as u32 + come.0 as u32) < 256)
 }
 
 // A delivery or a drop of a slot that holds m, at the cell that m is for; q is the line's serial.
-pub fn arrived(n: Count, q: Serial, e: Event, x: Cell, m: Message) -> SlotChange
-    requires { ⌜ (m .kind ≡ TokenMessage → x .tokens .0 + m .tokens .0 < 256) ⌝ }
+pub fn arrived(n: Count, q: Serial, e: Event, x: Cell, m: Message) -> Arrival
     ensures { λ r. ⌜ r ≡ arriveOf (n .0) (q .0) e (e .kind) x m ⌝ }
 {
-    if lost(e.kind, q, m) {
+    if lost(e.kind, q, x, m) {
         discarded(x)
     } else {
         arrive(n, e.amount, x, m)

@@ -1,7 +1,8 @@
 // The numbers of the table that an event has from the parts that it names.
 ghost use mathlib.Core.Path.{_≡_};
-ghost use Rattle.rules.specs.Refusals.{forCaches};
-ghost use Rattle.parts.specs.Rows.{ownRefusal, cellRefusal, sendRefusal};
+ghost use mathlib.Core.Bool.{_||_};
+ghost use Rattle.rules.specs.Refusals.{forCaches, slotted, sending};
+ghost use Rattle.parts.specs.Rows.{slotRefusal, sendRefusal, ownRefusal, cellRefusal};
 use rules::cells::Cell;
 use rules::choices::either;
 use rules::empties::is_nothing;
@@ -9,12 +10,25 @@ use rules::events::Event;
 use rules::numbers::Count;
 use rules::states::Sizes;
 
-// The cell's own refusals, 13 to 16: what an event of the kind has from the cell alone.
-fn own_refusal(kind: u32, n: Count, x: Cell) -> u32
-    ensures { λ r. ⌜ r ≡ ownRefusal kind (n .0) x ⌝ }
+// A delivery or a drop: 6 where the slot is above 63 or free.
+pub fn slot_refusal(tags: &[u32; 64], e: Event) -> u32
+    ensures { λ r. ⌜ r ≡ slotRefusal (now (tags .entry)) e ⌝ }
+{
+    if e.amount < 64 {
+        let at = e.amount as usize;
+        either(tags[at] == 0, 6, 0)
+    } else {
+        6
+    }
+}
+
+// The cell's own refusals, 13 to 16: what an event has from the cell alone.
+fn own_refusal(e: Event, n: Count, x: Cell) -> u32
+    ensures { λ r. ⌜ r ≡ ownRefusal e (e .kind) (n .0) x ⌝ }
 {
     let want = x.want;
     let idle = is_nothing(want);
+    let kind = e.kind;
     match kind {
         0 => either(x.able_to_read(), 0, 13),
         1 => either(x.able_to_write(n), 0, 13),
@@ -34,20 +48,27 @@ fn for_caches(kind: u32) -> bool
     (kind == 0) | (kind == 1) | (kind == 5) | (kind == 6) | (kind == 7)
 }
 
+// Kinds that name a slot, or another node.
+fn names_more(kind: u32) -> bool
+    ensures { λ r. ⌜ r ≡ slotted kind || sending kind ⌝ }
+{
+    (kind == 3) | (kind == 4) | (kind == 2)
+}
+
 // A read, a write, a want, or the cause of a timeout, at the cell that it names.
 pub fn cell_refusal(z: Sizes, e: Event, x: Cell) -> u32
     ensures { λ r. ⌜ r ≡ cellRefusal z e (e .kind) x ⌝ }
 {
+    if names_more(e.kind) {
+        return 0;
+    }
     let n = z.total;
     let lines = z.lines as u32;
     let caches = z.caches as u32;
     let memory = for_caches(e.kind) & (e.node == caches);
-    let own = own_refusal(e.kind, n, x);
-    either(
-        lines <= e.line,
-        3,
-        either(caches < e.node, 4, either(memory, 5, own)),
-    )
+    let own = own_refusal(e, n, x);
+    let nodes = either(caches < e.node, 4, either(memory, 5, own));
+    either(9 < e.kind, 2, either(lines <= e.line, 3, nodes))
 }
 
 // A send from the cell that it names, with the lowest free slot.

@@ -1,17 +1,19 @@
 // The recreation of a line's tokens, over the line's nine cells.
 ghost use mathlib.Core.Path.{_≡_};
-ghost use Prim.Native.Nat.{_<_, _≤_};
+ghost use Prim.Native.Nat.{_≤_};
 ghost use Rattle.rules.specs.Refusals.{next, lowest as lowestOf, copyless as copylessOf};
-ghost use Rattle.rules.specs.Effects.{wordFor};
-ghost use Rattle.parts.specs.Nines.{nth, marked, renewalRefusal, renewedOf};
+ghost use Rattle.rules.specs.Effects.{wordFor, afterRecreation};
+ghost use Rattle.parts.specs.Nines.{nth, marked};
+ghost use Rattle.parts.specs.Rows.{renewalRefusal};
 use rules::cells::Cell;
 use rules::choices::either;
+use rules::events::Event;
 use rules::numbers::Count;
 use rules::numbers::Serial;
 
 // One more, and 0 after 3.
 pub fn next_serial(q: Serial) -> Serial
-    ensures { λ r. ⌜ (q .0 < 4 → r .0 ≡ next (q .0)) ⌝ }
+    ensures { λ r. ⌜ r .0 ≡ next (q .0) ⌝ }
 {
     if q.0 < 3 { Serial(q.0 + 1) } else { Serial(0) }
 }
@@ -78,7 +80,7 @@ pub fn word_for(nine: [Cell; 9]) -> u32
 
 // A cell after the recreation: the chosen one has all n tokens and the word.
 pub fn renewed(chosen: bool, n: Count, word: u32, x: Cell) -> Cell
-    ensures { λ r. ⌜ r ≡ renewedOf chosen (n .0) word x ⌝ }
+    ensures { λ r. ⌜ r ≡ afterRecreation (n .0) word chosen x ⌝ }
 {
     if chosen {
         let y = x.recreate(n, word);
@@ -89,8 +91,8 @@ pub fn renewed(chosen: bool, n: Count, word: u32, x: Cell) -> Cell
 }
 
 // 17 where a message of the line bears the next serial, 18 where the line has no copy of its data.
-pub fn renewal_refusal(borne: bool, nine: [Cell; 9]) -> u32
-    ensures { λ r. ⌜ r ≡ renewalRefusal borne nine ⌝ }
+pub fn renewal_refusal(e: Event, borne: bool, nine: [Cell; 9]) -> u32
+    ensures { λ r. ⌜ r ≡ renewalRefusal e borne nine ⌝ }
 {
     either(borne, 17, either(copyless(nine), 18, 0))
 }

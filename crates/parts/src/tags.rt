@@ -1,7 +1,7 @@
 // What the slots hold, beside the state, one number for each: so that a search copies no pool.
 ghost use mathlib.Core.Path.{_≡_};
 ghost use Prim.Native.Nat.{_≤_};
-ghost use Rattle.parts.specs.Tags.{tagOf, Tagged, firstUntagged, absent as absentFrom, slotRefusal};
+ghost use Rattle.parts.specs.Tags.{tagOf, Tagged, firstUntagged, absent as absentFrom};
 use rules::choices::either;
 use rules::empties::is_free;
 use rules::messages::Message;
@@ -55,16 +55,4 @@ pub fn absent(tags: &[u32; 64], tag: u32) -> bool
         i += 1;
     }
     none
-}
-
-// A delivery or a drop: 6 where the slot is above 63 or free.
-pub fn slot_refusal(tags: &[u32; 64], slot: u32) -> u32
-    ensures { λ r. ⌜ r ≡ slotRefusal (now (tags .entry)) slot ⌝ }
-{
-    if slot < 64 {
-        let at = slot as usize;
-        either(tags[at] == 0, 6, 0)
-    } else {
-        6
-    }
 }

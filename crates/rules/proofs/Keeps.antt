@@ -9,5 +9,6 @@ pub mod Arrivals
 pub mod Renewals
 pub mod Numbers
 pub mod Shapes
+pub mod Deeds
 pub mod Steps
 pub mod Starts

@@ -53,7 +53,7 @@ ableToWrite n c = eqb (c .tokens .0) n && c .valid
 abbrev pub written : ℕ → Cell → Cell
 written w c = withData (c .valid) w c
 
--- the count falls by the amount; left with no token, the cell loses valid and its data
+-- the count falls by the amount, and not below 0; left with no token, the cell loses valid and its data
 abbrev pub give : ℕ → Cell → Cell
 give a c =
     withTokens (c .tokens .0 - a) (withData (ltb a (c .tokens .0) && c .valid) (pick (ltb a (c .tokens .0)) (c .word) 0) c)
@@ -65,6 +65,10 @@ backUp c = withBackup true (c .word) (withRole false (c .blocked) c)
 -- the count rises by the amount
 abbrev pub take : ℕ → Cell → Cell
 take a c = withTokens (c .tokens .0 + a) c
+
+-- the same where the sum fits a byte; as it came where it does not (no state that is well formed has such a cell)
+unfoldable pub takeFitting : ℕ → Cell → Cell
+takeFitting a c = when (ltb (c .tokens .0 + a) 256) (take a) c
 
 -- the cell becomes valid with the word
 abbrev pub fill : ℕ → Cell → Cell

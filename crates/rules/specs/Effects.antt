@@ -1,10 +1,10 @@
 -- What each event does when no number refuses it (document 01, "What each event does"). Assumes nothing.
 use Prim.Native.Nat.{ℕ, _*_}
-use mathlib.Core.Bool.{false}
+use mathlib.Core.Bool.{Bool, false}
 use lib.Dec.{eqb, ltb}
-use Rattle.rules.specs.Types.{Want, Read, Write, Cell, MessageKind, Free, Tokens, OwnershipAck, DeletionAck, Message, State, Event, Answer, Stepped}
+use Rattle.rules.specs.Types.{Want, Read, Write, Cell, MessageKind, Free, Tokens, OwnershipAck, DeletionAck, Message, State, Event, Answer, Arrival, Stepped}
 use Rattle.rules.specs.Tools.{pick, when, fillTo}
-use Rattle.rules.specs.States.{freeMessage, cellAt, slotAt, serialAt, withCells, withCell, withSlot, withSerial}
+use Rattle.rules.specs.States.{freeMessage, isFree, cellAt, slotAt, serialAt, withCells, withCell, withSlot, withSerial}
 use Rattle.rules.specs.Cells.{withWant, written, backUp, give, received, unbacked, unblocked, cleared, recreated, settled}
 use Rattle.rules.specs.Refusals.{reading, writing, sending, delivering, dropping, wantingRead, wantingWrite, cellOf, lowestFree, next, lowest, refusal}
 
@@ -80,26 +80,40 @@ ack k q m =
       word = 0;
     }
 
--- a message of the line's serial q is delivered, by its kind
-unfoldable pub arrive : State → ℕ → Message → ℕ → MessageKind → Stepped
-arrive s i m q Free = emptied s i
-arrive s i m q Tokens =
-    answered
-    (landed s i m (settled (s .sizes .total .0) (received m (target s m))) (pick (m .owner) (ack OwnershipAck q m) freeMessage))
-    0
-    1
-    (pick (m .owner) i 64)
-arrive s i m q OwnershipAck =
-    pick (target s m .backup) (answered (landed s i m (unbacked (target s m)) (ack DeletionAck q m)) 0 1 i) (emptied s i)
-arrive s i m q DeletionAck =
-    pick (target s m .blocked) (answered (landed s i m (unblocked (target s m)) freeMessage) 0 1 64) (emptied s i)
+-- what a delivery leaves: the cell that the message is for, the kind of the reply in the slot (free: none), the answer
+abbrev pub arrival : Cell → MessageKind → Answer → Arrival
+arrival x k a = record { cell = x; reply = k; answer = a }
 
--- deliver empties the slot; a message whose serial is not the line's is discarded
+-- discarded: nothing else happens
+abbrev pub discarded : Cell → Arrival
+discarded x = arrival x Free (answer 0 0 64)
+
+-- a message m of the line's serial is delivered from slot i to the cell x, by its kind
+unfoldable pub arrive : ℕ → ℕ → Cell → Message → MessageKind → Arrival
+arrive n i x m Free = discarded x
+arrive n i x m Tokens =
+    arrival (settled n (received m x)) (pick (m .owner) OwnershipAck Free) (answer 0 1 (pick (m .owner) i 64))
+arrive n i x m OwnershipAck = pick (x .backup) (arrival (unbacked x) DeletionAck (answer 0 1 i)) (discarded x)
+arrive n i x m DeletionAck = pick (x .blocked) (arrival (unblocked x) Free (answer 0 1 64)) (discarded x)
+
+-- a message whose serial is not the line's serial q is discarded
+unfoldable pub delivered : ℕ → ℕ → ℕ → Cell → Message → Arrival
+delivered n q i x m = pick (eqb (m .serial .0) q) (arrive n i x m (m .kind)) (discarded x)
+
+-- what then stands in the slot: nothing, or the reply to m
+unfoldable pub replyOf : MessageKind → ℕ → Message → Message
+replyOf k q m = pick (isFree k) freeMessage (ack k q m)
+
+-- the state and the answer after an arrival of m from slot i
+abbrev pub leaves : State → ℕ → ℕ → Message → Arrival → Stepped
+leaves s i q m a = record { state = landed s i m (a .cell) (replyOf (a .reply) q m); answer = a .answer }
+
+-- deliver empties the slot, and the message arrives
 unfoldable pub deliverOf : State → Event → Stepped
 deliverOf s e =
     let m = slotAt s (e .amount) in
     let q = serialAt s (m .line) in
-    pick (eqb (m .serial .0) q) (arrive s (e .amount) m q (m .kind)) (emptied s (e .amount))
+    leaves s (e .amount) q m (delivered (s .sizes .total .0) q (e .amount) (target s m) m)
 
 -- want records the want
 unfoldable pub wantOf : State → Event → Want → Stepped
@@ -113,17 +127,20 @@ wordFor cells =
     let b = lowest cells (λ c. c .backup) in
     pick (ltb o 9) (cells o .word) (pick (ltb v 9) (cells v .word) (pick (ltb b 9) (cells b .saved) 0))
 
--- a line's cell at node j after a recreation for the node: that node's gets n tokens and the word w, every cell loses what it had
-unfoldable pub afterRecreation : ℕ → ℕ → ℕ → (ℕ → Cell) → ℕ → Cell
-afterRecreation n node w cells j = pick (eqb j node) (settled n (recreated n w (cells j))) (cleared (cells j))
+-- a cell of the line after a recreation: the chosen node's gets n tokens and the word w; every cell loses what it had
+unfoldable pub afterRecreation : ℕ → ℕ → Bool → Cell → Cell
+afterRecreation n w chosen c = pick chosen (settled n (recreated n w c)) (cleared c)
+
+-- the line's cells after a recreation for the node, node by node
+abbrev pub recreatedLine : ℕ → ℕ → (ℕ → Cell) → ℕ → Cell
+recreatedLine n node cells j = afterRecreation n (wordFor cells) (eqb j node) (cells j)
 
 -- a timeout recreates the line's tokens for the node; messages stay in the pool
 unfoldable pub recreateOf : State → Event → Stepped
 recreateOf s e =
-    let cells = cellAt s (e .line) in
     answered
     (withSerial
-    (withCells s (fillTo 9 (e .line * 9) (afterRecreation (s .sizes .total .0) (e .node) (wordFor cells) cells) (s .cells)))
+    (withCells s (fillTo 9 (e .line * 9) (recreatedLine (s .sizes .total .0) (e .node) (cellAt s (e .line))) (s .cells)))
     (e .line)
     (next (serialAt s (e .line))))
     0

@@ -3,7 +3,7 @@ use Prim.Native.Nat.{ℕ, suc}
 use mathlib.Core.Bool.{Bool, not, _&&_, _||_}
 use mathlib.Core.List.{List, [], _∷_}
 use lib.Dec.{eqb, leb, ltb}
-use Rattle.rules.specs.Types.{Cell, State, Event}
+use Rattle.rules.specs.Types.{Cell, Sizes, State, Event}
 use Rattle.rules.specs.Tools.{pick, allTo, firstTo}
 use Rattle.rules.specs.States.{cellAt, slotAt, serialAt, isFree, bears}
 use Rattle.rules.specs.WellFormed.{wellFormed}
@@ -75,7 +75,7 @@ lowestFree s = firstTo 64 (freeAt s)
 
 -- the next serial: one more, and 0 after 3
 unfoldable pub next : ℕ → ℕ
-next q = pick (eqb q 3) 0 (suc q)
+next q = pick (ltb q 3) (suc q) 0
 
 -- no message of the line in the pool bears the serial
 unfoldable pub unborne : State → ℕ → ℕ → Bool
@@ -90,6 +90,28 @@ unfoldable pub copyless : (ℕ → Cell) → Bool
 copyless cells =
     eqb (lowest cells (λ c. c .owner)) 9 && eqb (lowest cells (λ c. c .valid)) 9 && eqb (lowest cells (λ c. c .backup)) 9
 
+-- what the numbers look at beside the event: whether the state is well formed; its sizes; the cell that the event names; whether the
+-- slot that it names is free; the lowest free slot, or 64; whether a message of its line bears the next serial; its line's cells
+pub record Seen : Type 0 where
+  pub fine : Bool
+  pub sizes : Sizes
+  pub cell : Cell
+  pub free : Bool
+  pub slot : ℕ
+  pub borne : Bool
+  pub cells : ℕ → Cell
+
+-- these seven, in that order
+abbrev pub sight : Bool → Sizes → Cell → Bool → ℕ → Bool → (ℕ → Cell) → Seen
+sight f z x b i n cs = record { fine = f; sizes = z; cell = x; free = b; slot = i; borne = n; cells = cs }
+
+-- what an event's numbers look at in a state
+abbrev pub seen : State → Event → Seen
+seen s e =
+    sight (wellFormed s) (s .sizes) (cellOf s e) (freeAt s (e .amount)) (lowestFree s)
+    (not (unborne s (e .line) (next (serialAt s (e .line)))))
+    (cellAt s (e .line))
+
 -- a number of the table, and whether it applies
 pub record Row : Type 0 where
   pub number : ℕ
@@ -99,43 +121,51 @@ pub record Row : Type 0 where
 abbrev pub row : ℕ → Bool → Row
 row n b = record { number = n; applies = b }
 
--- the rows 13 to 16, which look at the event's kind k and the cell x alone, before the rows that follow
-abbrev pub ownRows : ℕ → ℕ → Cell → List Row → List Row
-ownRows k n x rest =
-    row 13 (reading k && not (ableToRead x) || writing k && not (ableToWrite n x))
-    ∷ row 14 ((wantingRead k || wantingWrite k) && not (isNothing (x .want)))
-    ∷ row 15 (wantingRead k && ableToRead x || wantingWrite k && ableToWrite n x)
-    ∷ row 16 (lostToken k && isNothing (x .want) || lostData k && not (x .backup) || lostDeletionAck k && not (x .blocked))
-    ∷ rest
+-- 8: amount 0, or above the sender's count, or no owner mark and the sender is owner and the amount is its whole count
+abbrev pub wrongAmount : Event → Cell → Bool
+wrongAmount e x =
+    eqb (e .amount) 0 || ltb (x .tokens .0) (e .amount) || not (eqb (e .owner) 1) && x .owner && eqb (e .amount) (x .tokens .0)
+
+-- 9: owner mark and not owner, or owner mark without data mark
+abbrev pub wrongOwner : Event → Cell → Bool
+wrongOwner e x = eqb (e .owner) 1 && not (x .owner) || eqb (e .owner) 1 && not (eqb (e .full) 1)
+
+-- 16: kind 7 and no want recorded; kind 8 and no backup; kind 9 and not blocked
+abbrev pub causeless : ℕ → Cell → Bool
+causeless k x = lostToken k && isNothing (x .want) || lostData k && not (x .backup) || lostDeletionAck k && not (x .blocked)
 
 -- the table, in its order, for an event of kind k
-unfoldable pub table : State → Event → ℕ → List Row
-table s e k =
-    row 1 (not (wellFormed s))
+unfoldable pub table : Seen → Event → ℕ → List Row
+table v e k =
+    row 1 (not (v .fine))
     ∷ row 2 (ltb 9 k || sending k && (ltb 1 (e .owner) || ltb 1 (e .full)))
-    ∷ row 3 (not (slotted k) && leb (s .sizes .lines) (e .line))
-    ∷ row 4 (not (slotted k) && ltb (s .sizes .caches) (e .node) || sending k && ltb (s .sizes .caches) (e .other))
-    ∷ row 5 (forCaches k && eqb (e .node) (s .sizes .caches))
-    ∷ row 6 (slotted k && (ltb 63 (e .amount) || freeAt s (e .amount)))
+    ∷ row 3 (not (slotted k) && leb (v .sizes .lines) (e .line))
+    ∷ row 4 (not (slotted k) && ltb (v .sizes .caches) (e .node) || sending k && ltb (v .sizes .caches) (e .other))
+    ∷ row 5 (forCaches k && eqb (e .node) (v .sizes .caches))
+    ∷ row 6 (slotted k && (ltb 63 (e .amount) || v .free))
     ∷ row 7 (sending k && eqb (e .node) (e .other))
-    ∷ row 8
-    (sending k
-    && (eqb (e .amount) 0 || ltb (cellOf s e .tokens .0) (e .amount)
-    || not (eqb (e .owner) 1) && cellOf s e .owner && eqb (e .amount) (cellOf s e .tokens .0)))
-    ∷ row 9 (sending k && (eqb (e .owner) 1 && not (cellOf s e .owner) || eqb (e .owner) 1 && not (eqb (e .full) 1)))
-    ∷ row 10 (sending k && (eqb (e .owner) 1 && cellOf s e .blocked))
-    ∷ row 11 (sending k && (eqb (e .full) 1 && not (cellOf s e .valid)))
-    ∷ row 12 (sending k && eqb (lowestFree s) 64)
-    ∷ ownRows k (s .sizes .total .0) (cellOf s e)
-    (row 17 (timeout k && not (unborne s (e .line) (next (serialAt s (e .line)))))
-    ∷ row 18 (timeout k && copyless (cellAt s (e .line)))
-    ∷ [])
+    ∷ row 8 (sending k && wrongAmount e (v .cell))
+    ∷ row 9 (sending k && wrongOwner e (v .cell))
+    ∷ row 10 (sending k && (eqb (e .owner) 1 && v .cell .blocked))
+    ∷ row 11 (sending k && (eqb (e .full) 1 && not (v .cell .valid)))
+    ∷ row 12 (sending k && eqb (v .slot) 64)
+    ∷ row 13 (reading k && not (ableToRead (v .cell)) || writing k && not (ableToWrite (v .sizes .total .0) (v .cell)))
+    ∷ row 14 ((wantingRead k || wantingWrite k) && not (isNothing (v .cell .want)))
+    ∷ row 15 (wantingRead k && ableToRead (v .cell) || wantingWrite k && ableToWrite (v .sizes .total .0) (v .cell))
+    ∷ row 16 (causeless k (v .cell))
+    ∷ row 17 (timeout k && v .borne)
+    ∷ row 18 (timeout k && copyless (v .cells))
+    ∷ []
 
--- the smallest number that applies, and 0 only if none does
+-- the first number that applies, and 0 only if none does; the numbers ascend, so it is the smallest
 unfoldable pub given : List Row → ℕ
 given [] = 0
 given (r ∷ rs) = pick (r .applies) (r .number) (given rs)
 
+-- the table of an event of kind k in a state
+abbrev pub tableOf : State → Event → ℕ → List Row
+tableOf s e k = table (seen s e) e k
+
 -- the number that a step gives back
 unfoldable pub refusal : State → Event → ℕ
-refusal s e = given (table s e (e .kind))
+refusal s e = given (tableOf s e (e .kind))

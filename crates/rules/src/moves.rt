@@ -1,35 +1,43 @@
 // The ways in which a cell changes (document 01, "What each event does"), each a method that returns the cell.
 ghost use mathlib.Core.Path.{_≡_};
-ghost use Prim.Native.Nat.{_+_, _≤_, _<_};
-ghost use Rattle.rules.specs.Cells.{ableToRead, ableToWrite, served, give as given, take as taken, fill as filled, block as blockedNow, backUp, unbacked, unblocked, cleared, recreated, written, withWant, wantAfter, settled};
+ghost use Prim.Native.Nat.{_-_};
+ghost use Rattle.rules.specs.Cells.{ableToRead, ableToWrite, served, give as given, takeFitting, fill as filled, block as blockedNow, backUp, unbacked, unblocked, cleared, recreated, written, withWant, wantAfter, settled};
 use crate::cells::Cell;
 use crate::cells::Want;
 use crate::choices::either;
 use crate::numbers::Count;
 
+// The difference, or 0 where the second is more.
+fn less(a: u8, b: u8) -> u8
+    ensures { λ r. ⌜ r ≡ a - b ⌝ }
+{
+    if b < a { a - b } else { 0 }
+}
+
 impl Cell {
-    // The count falls by the amount; with no token left, valid and the data go.
+    // The count falls by the amount, and not below 0; with no token left, valid and the data go.
     pub fn give(mut self, amount: Count) -> Cell
-        requires { ⌜ amount .0 ≤ self .tokens .0 ⌝ }
         ensures { λ r. ⌜ r ≡ given (amount .0) self ⌝ }
     {
         let had = self.tokens;
         let some = amount.0 < had.0;
-        let left = Count(had.0 - amount.0);
+        let left = Count(less(had.0, amount.0));
         self.word = either(some, self.word, 0);
         self.valid = some & self.valid;
         self.tokens = left;
         self
     }
 
-    // The count rises by the amount.
+    // The count rises by the amount; where the sum does not fit a byte, the cell as it came.
     pub fn take(mut self, amount: Count) -> Cell
-        requires { ⌜ self .tokens .0 + amount .0 < 256 ⌝ }
-        ensures { λ r. ⌜ r ≡ taken (amount .0) self ⌝ }
+        ensures { λ r. ⌜ r ≡ takeFitting (amount .0) self ⌝ }
     {
         let had = self.tokens;
-        let sum = Count(had.0 + amount.0);
-        self.tokens = sum;
+        if had.0 as u32 + (amount.0 as u32) < 256 {
+            let sum = Count(had.0 + amount.0);
+            self.tokens = sum;
+            return self;
+        }
         self
     }
 

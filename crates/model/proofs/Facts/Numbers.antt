@@ -1,113 +1,108 @@
--- The number of an event over a well formed state, by what it names: the rows that can apply. Assumes nothing.
+-- The number of an event over a well formed state, from the parts that it names. Assumes nothing.
 use Prim.Native.Nat.{ℕ, _≤_, _<_}
-use mathlib.Core.Bool.{true, false, not, _||_, or-false}
+use mathlib.Core.Bool.{true, false, _||_}
 use mathlib.Core.Path.{_≡_, refl, ap, _∙_}
-use mathlib.Core.List.{List, [], _∷_, _++_}
+use mathlib.Core.Logic.{_≢_}
+use mathlib.Core.List.{List, [], _∷_}
 use native.Mathlib.Omega.{arith}
 use lib.Dec.{eqb, leb, ltb}
-use borrow.Author.Tests.{lt-ltb, ltb-true, ltb-false, leb-false, ne-eqb}
+use borrow.Author.Tests.{ltb-true, ltb-false, leb-false, eqb-true, eqb-false, eq-eqb, ne-eqb}
 use Rattle.model.specs.Types.{Cell, Sizes, State, Event}
 use Rattle.rules.specs.Tools.{pick}
-use Rattle.rules.specs.States.{cellAt, serialAt}
 use Rattle.rules.specs.WellFormed.{wellFormed}
-use Rattle.rules.specs.Refusals.{Row, row, given, table, refusal, slotted, cellOf, freeAt, lowestFree, unborne, next, copyless}
-use Rattle.parts.specs.Rows.{cellRows, cellRefusal, sendRefusal}
-use Rattle.rules.proofs.Laws.Bools.{clash, split, and-both}
-use Rattle.rules.proofs.Keeps.Accepted.{by-kind, numbered}
+use Rattle.rules.specs.Refusals.{Row, seen, given, table, tableOf, refusal, timeout, slotted, sending, delivering, cellOf, freeAt, lowestFree}
+use Rattle.parts.specs.Rows.{before, from, slotSight, sendRefusal, cellRefusal}
+use Rattle.rules.proofs.Laws.Bools.{split, and-left, and-right, or-left, or-right}
+use Rattle.rules.proofs.Laws.Rows.{ascends, table-ascends}
 
--- rows before others
-pub given-onto : (rs rest : List Row) → numbered rs ≡ true → given (rs ++ rest) ≡ pick (eqb (given rs) 0) (given rest) (given rs)
-unfolding numbered given
-given-onto [] rest h = refl
-given-onto (r ∷ rs) rest h =
-    let p = and-both (ltb 0 (r .number)) (numbered rs) h in
-    split (r .applies) (λ t. rw (t, ne-eqb (r .number) 0 (λ z. omega (arith, ltb-true 0 (r .number) (p .0))))) (λ f. rw f (given-onto rs rest (p .1)))
+-- a list of rows, cut at a number
+cut-from : (n a : ℕ) (rs : List Row) → ascends a rs ≡ true
+    → given rs ≡ pick (eqb (given (before n rs)) 0) (given (from n rs)) (given (before n rs))
+unfolding ascends given before from
+cut-from n a [] h = refl
+cut-from n a (r ∷ rs) h =
+    let up = ltb-true a (r .number) (and-left _ _ h) in
+    split (ltb (r .number) n)
+    (λ t.
+    split (r .applies) (λ y. rw (t, y, ne-eqb (r .number) 0 (λ z. omega arith)))
+    (λ f. rw (t, f) (cut-from n (r .number) rs (and-right (ltb a (r .number)) (ascends (r .number) rs) h))))
+    (λ f. rw f)
 
--- where one of them applies the others do not matter
-pub given-stops : (rs rest : List Row) → numbered rs ≡ true → {n : ℕ} → given rs ≡ n → (n ≡ 0 → ⊥) → given (rs ++ rest) ≡ n
-given-stops rs rest h {n} g d = given-onto rs rest h ∙ rw (g, ne-eqb n 0 d)
+-- what is given from the front alone
+front : (c : ℕ) → pick (eqb c 0) 0 c ≡ c
+front c = split (eqb c 0) (λ t. rw (t, eqb-true c 0 t)) (λ f. rw f)
 
 module _ (s : State) (e : Event) (w : wellFormed s ≡ true) where
-  -- the table without its first row
-  past : {n : ℕ} → given (table s e (e .kind)) ≡ pick (not (wellFormed s)) 1 n → refusal s e ≡ n
-  unfolding refusal
-  past {n} p = p ∙ ap (λ t. pick (not t) 1 n) w
+  -- a delivery or a drop: by its slot
+  pub slot-number : slotted (e .kind) ≡ true → refusal s e ≡ given (table (slotSight (freeAt s (e .amount))) e 3)
+  unfolding refusal table given
+  slot-number h =
+      split (delivering (e .kind)) (λ t. ap (λ k. given (tableOf s e k)) (eqb-true (e .kind) 3 t) ∙ rw w)
+      (λ f. ap (λ k. given (tableOf s e k)) (eqb-true (e .kind) 4 (rw f at h)) ∙ rw w)
 
-  pub above-number : 9 < e .kind → refusal s e ≡ 2
-  unfolding table given
-  above-number h = past (rw (lt-ltb 9 (e .kind) h))
+  -- a send: by its sender's cell and the lowest free slot
+  pub send-number : sending (e .kind) ≡ true → refusal s e ≡ sendRefusal (s .sizes) e (cellOf s e) (lowestFree s)
+  unfolding refusal sendRefusal table given
+  send-number h = ap (λ k. given (tableOf s e k)) (eqb-true (e .kind) 2 h) ∙ rw w
 
-  pub slot-number : e .kind ≤ 9 → slotted (e .kind) ≡ true → refusal s e ≡ pick (ltb 63 (e .amount) || freeAt s (e .amount)) 6 0
-  unfolding table given
-  slot-number h t =
-      past
-      (by-kind (λ k. slotted k ≡ true → given (table s e k) ≡ pick (not (wellFormed s)) 1 (pick (ltb 63 (e .amount) || freeAt s (e .amount)) 6 0)) (λ f. clash f refl)
-      (λ f. clash f refl)
-      (λ f. clash f refl)
-      (λ f. refl)
-      (λ f. refl)
-      (λ f. clash f refl)
-      (λ f. clash f refl)
-      (λ f. clash f refl)
-      (λ f. clash f refl)
-      (λ f. clash f refl)
-      (e .kind)
-      h
-      t)
+  module _ (plain : slotted (e .kind) || sending (e .kind) ≡ false) where
+    -- the numbers before 17: by the cell
+    cause-is : given (before 17 (tableOf s e (e .kind))) ≡ cellRefusal (s .sizes) e (e .kind) (cellOf s e)
+    unfolding cellRefusal table given before
+    cause-is = rw (w, or-left (slotted (e .kind)) (sending (e .kind)) plain, or-right (slotted (e .kind)) (sending (e .kind)) plain)
 
-  pub send-number : e .kind ≡ 2 → refusal s e ≡ sendRefusal (s .sizes) e (cellOf s e) (lowestFree s)
-  unfolding sendRefusal table given
-  send-number h = past (ap (λ k. given (table s e k)) h)
+    cut : refusal s e
+        ≡ pick (eqb (cellRefusal (s .sizes) e (e .kind) (cellOf s e)) 0) (given (from 17 (tableOf s e (e .kind))))
+        (cellRefusal (s .sizes) e (e .kind) (cellOf s e))
+    unfolding refusal
+    cut = rw (← cause-is) (cut-from 17 0 (tableOf s e (e .kind)) (table-ascends (seen s e) e (e .kind)))
 
-  pub cell-number : e .kind ≤ 9 → slotted (e .kind) ≡ false → (e .kind ≡ 2 → ⊥) → e .kind < 7 → refusal s e ≡ cellRefusal (s .sizes) e (e .kind) (cellOf s e)
-  unfolding cellRefusal table given
-  cell-number h f d l =
-      past
-      (by-kind (λ k. slotted k ≡ false → (k ≡ 2 → ⊥) → k < 7 → given (table s e k) ≡ pick (not (wellFormed s)) 1 (cellRefusal (s .sizes) e k (cellOf s e))) (λ _ _ _. simp or-false)
-      (λ _ _ _. simp or-false)
-      (λ _ b _. absurd (b refl))
-      (λ g _ _. clash refl g)
-      (λ g _ _. clash refl g)
-      (λ _ _ _. simp or-false)
-      (λ _ _ _. simp or-false)
-      (λ _ _ b. absurd (omega arith))
-      (λ _ _ b. absurd (omega arith))
-      (λ _ _ b. absurd (omega arith))
-      (e .kind)
-      h
-      f
-      d
-      l)
+    -- where one of these applies it is the number
+    pub cell-stops : cellRefusal (s .sizes) e (e .kind) (cellOf s e) ≢ 0 → refusal s e ≡ cellRefusal (s .sizes) e (e .kind) (cellOf s e)
+    cell-stops d = cut ∙ rw (ne-eqb (cellRefusal (s .sizes) e (e .kind) (cellOf s e)) 0 d)
 
-  pub timeout-number : e .kind ≤ 9 → 7 ≤ e .kind
-      → refusal s e ≡ given (cellRows (s .sizes) e (e .kind) (cellOf s e) (row 17 (not (unborne s (e .line) (next (serialAt s (e .line))))) ∷ row 18 (copyless (cellAt s (e .line))) ∷ []))
-  unfolding table given
-  timeout-number h l =
-      past
-      (by-kind (λ k. 7 ≤ k → given (table s e k) ≡ pick (not (wellFormed s)) 1 (given (cellRows (s .sizes) e k (cellOf s e) (row 17 (not (unborne s (e .line) (next (serialAt s (e .line))))) ∷ row 18 (copyless (cellAt s (e .line))) ∷ []))))
-      (λ b. absurd (omega arith))
-      (λ b. absurd (omega arith))
-      (λ b. absurd (omega arith))
-      (λ b. absurd (omega arith))
-      (λ b. absurd (omega arith))
-      (λ b. absurd (omega arith))
-      (λ b. absurd (omega arith))
-      (λ _. simp or-false)
-      (λ _. simp or-false)
-      (λ _. simp or-false)
-      (e .kind)
-      h
-      l)
+    -- a read, a write, a want: there are no others
+    none : timeout (e .kind) ≡ false → given (from 17 (tableOf s e (e .kind))) ≡ 0
+    unfolding from table given
+    none f = rw f
+
+    pub cell-number : timeout (e .kind) ≡ false → refusal s e ≡ cellRefusal (s .sizes) e (e .kind) (cellOf s e)
+    cell-number f = cut ∙ rw (none f) (front (cellRefusal (s .sizes) e (e .kind) (cellOf s e)))
+
+    -- a timeout that has a cause: by the line
+    pub timeout-number : timeout (e .kind) ≡ true → cellRefusal (s .sizes) e (e .kind) (cellOf s e) ≡ 0
+        → refusal s e ≡ given (from 17 (tableOf s e 7))
+    unfolding from table given
+    timeout-number t h = cut ∙ rw (h, t)
+
+-- kinds 7 to 9 are the timeouts
+pub is-timeout : (k : ℕ) → 7 ≤ k → k ≤ 9 → timeout k ≡ true
+is-timeout k a b =
+    split (eqb k 7) (λ t. rw t)
+    (λ f. split (eqb k 8) (λ t. rw (f, t)) (λ g. rw (f, g) (eq-eqb k 9 (omega (arith, eqb-false k 7 f, eqb-false k 8 g)))))
+
+pub no-timeout : (k : ℕ) → k < 7 → timeout k ≡ false
+no-timeout k h = rw (ne-eqb k 7 (λ z. omega arith), ne-eqb k 8 (λ z. omega arith), ne-eqb k 9 (λ z. omega arith))
 
 -- the rows that look at a cell are asked only of a line and a node within the sizes
-pub cell-same : (z : Sizes) (e : Event) (k : ℕ) (x y : Cell) → (e .line < z .lines → e .node ≤ z .caches → x ≡ y) → cellRefusal z e k x ≡ cellRefusal z e k y
-unfolding cellRefusal given
-cell-same z e k x y h =
-    split (leb (z .lines) (e .line)) (λ t. rw t)
-    (λ f. split (ltb (z .caches) (e .node)) (λ t. rw (f, t)) (λ g. rw (h (leb-false (z .lines) (e .line) f) (ltb-false (z .caches) (e .node) g))))
+module _ (z : Sizes) (e : Event) where
+  pub cell-same : (k : ℕ) (x y : Cell) → (e .line < z .lines → e .node ≤ z .caches → x ≡ y) → cellRefusal z e k x ≡ cellRefusal z e k y
+  unfolding cellRefusal given before table
+  cell-same k x y h =
+      split (slotted k || sending k) (λ t. rw t)
+      (λ f.
+      let p = or-left (slotted k) (sending k) f in
+      split (leb (z .lines) (e .line)) (λ t. rw (p, t))
+      (λ g. split (ltb (z .caches) (e .node)) (λ t. rw (p, g, t)) (λ l. rw (h (leb-false (z .lines) (e .line) g) (ltb-false (z .caches) (e .node) l)))))
 
-pub cell-within : (z : Sizes) (e : Event) (k : ℕ) (x : Cell) → cellRefusal z e k x ≡ 0 → (e .line < z .lines) × (e .node ≤ z .caches)
-unfolding cellRefusal given
-cell-within z e k x h =
-    split (leb (z .lines) (e .line)) (λ t. absurd (omega (arith, rw t at h)))
-    (λ f. split (ltb (z .caches) (e .node)) (λ t. absurd (omega (arith, rw (f, t) at h))) (λ g. (leb-false (z .lines) (e .line) f, ltb-false (z .caches) (e .node) g)))
+  -- what an event has that none of them refuses
+  pub cell-within : (k : ℕ) (x : Cell) → slotted k || sending k ≡ false → cellRefusal z e k x ≡ 0 → (k ≤ 9) × (e .line < z .lines) × (e .node ≤ z .caches)
+  unfolding cellRefusal given before table
+  cell-within k x f h =
+      let p = or-left (slotted k) (sending k) f in
+      split (ltb 9 k) (λ t. absurd (omega (arith, rw (f, t) at h)))
+      (λ n.
+      split (leb (z .lines) (e .line)) (λ t. absurd (omega (arith, rw (f, p, n, or-right (slotted k) (sending k) f, t) at h)))
+      (λ g.
+      split (ltb (z .caches) (e .node)) (λ t. absurd (omega (arith, rw (f, p, n, or-right (slotted k) (sending k) f, g, t) at h)))
+      (λ l. (ltb-false 9 k n, leb-false (z .lines) (e .line) g, ltb-false (z .caches) (e .node) l))))

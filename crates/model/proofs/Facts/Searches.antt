@@ -1,20 +1,22 @@
 -- What a search finds depends on what it looks at alone. Assumes nothing.
 use Prim.Native.Nat.{ℕ, zero, suc, _+_, _*_, _<_}
-use mathlib.Core.Bool.{Bool, true, false, not, _&&_, _||_, or-true}
+use mathlib.Core.Bool.{Bool, true, false, not, _&&_, or-true}
 use mathlib.Core.Path.{_≡_, refl, sym, ap, ap₂, _∙_}
 use mathlib.Core.List.{List}
 use native.Mathlib.Omega.{arith}
 use lib.Dec.{eqb, ltb}
 use lib.ListN.{getD, set}
 use native.Mathlib.Decide.{ℕ-discrete}
-use borrow.Author.Tests.{ltb-true, ltb-false, lt-ltb, le-ltb, eq-eqb, ne-eqb}
-use Rattle.model.specs.Types.{Cell, MessageKind, Free, Tokens, OwnershipAck, DeletionAck, State}
+use borrow.Author.Tests.{ltb-true, ltb-false, eq-eqb, ne-eqb}
+use Rattle.model.specs.Types.{Cell, MessageKind, Free, Tokens, OwnershipAck, DeletionAck, State, Event}
 use Rattle.rules.specs.Tools.{pick, firstTo, fillTo}
 use Rattle.rules.specs.States.{slotAt, isFree, bears}
 use Rattle.rules.specs.WellFormed.{wellFormed}
 use Rattle.rules.specs.Refusals.{freeAt, lowest, copyless, lowestFree, unborne}
-use Rattle.rules.specs.Effects.{wordFor, afterRecreation}
-use Rattle.parts.specs.Tags.{tagOf, Tagged, firstUntagged, absent, slotRefusal}
+use Rattle.rules.specs.Effects.{wordFor, recreatedLine}
+use Rattle.parts.specs.Tags.{tagOf, Tagged, firstUntagged, absent}
+use Rattle.parts.specs.Rows.{slotSight, slotRefusal}
+use Rattle.rules.specs.Refusals.{table, given}
 use Rattle.rules.proofs.Laws.Bools.{split}
 use Rattle.rules.proofs.Keeps.Well.{well-address}
 use Rattle.rules.proofs.Facts.Loops.{all-same}
@@ -66,15 +68,16 @@ module _ {tags : List ℕ} (t : State) (tagged : Tagged tags (t .pool)) where
   free-found = first-same 64 free-at
 
   -- number 6
-  pub slot-refusal : (i : ℕ) → slotRefusal tags i ≡ pick (ltb 63 i || freeAt t i) 6 0
-  unfolding slotRefusal
-  slot-refusal i =
-      split (ltb i 64) (λ y. let l = ltb-true i 64 y in rw (y, free-at i l, le-ltb 63 i (omega arith)))
-      (λ n. rw (n, lt-ltb 63 i (omega (arith, ltb-false i 64 n))))
+  pub slot-refusal : (e : Event) → slotRefusal tags e ≡ given (table (slotSight (freeAt t (e .amount))) e 3)
+  unfolding slotRefusal table given
+  slot-refusal e = split (ltb 63 (e .amount)) (λ y. rw y) (λ n. rw (n, free-at (e .amount) (omega (arith, ltb-false 63 (e .amount) n))))
 
-  pub slot-busy : (i : ℕ) → slotRefusal tags i ≡ 0 → freeAt t i ≡ false
-  slot-busy i h =
-      split (freeAt t i) (λ y. absurd (let g : pick (ltb 63 i || freeAt t i) 6 0 ≡ 0 = sym (slot-refusal i) ∙ h in omega (arith, rw (y, or-true) at g))) (λ n. n)
+  pub slot-busy : (e : Event) → slotRefusal tags e ≡ 0 → freeAt t (e .amount) ≡ false
+  unfolding table given
+  slot-busy e h =
+      split (freeAt t (e .amount))
+      (λ y. absurd (let g : given (table (slotSight (freeAt t (e .amount))) e 3) ≡ 0 = sym (slot-refusal e) ∙ h in omega (arith, rw (y, or-true) at g)))
+      (λ n. n)
 
   -- number 17: no slot has the tag of the line with the serial
   pub absent-is : wellFormed t ≡ true → (line q : ℕ) → q < 256 → absent tags (tagOf Tokens line q) ≡ unborne t line q
@@ -86,9 +89,10 @@ module _ {tags : List ℕ} (t : State) (tagged : Tagged tags (t .pool)) where
       (ap (λ n. eqb n (tagOf Tokens line q)) (tagged .each i l)
       ∙ tag-bears (slotAt t i .kind) (slotAt t i .line) (slotAt t i .serial .0) line q (λ f. let ad = well-address t w i l f in omega arith) small))
 
-pub slot-near : (tags : List ℕ) (i : ℕ) {n : ℕ} → n ≡ slotRefusal tags i → n ≡ 0 → i < 64
-unfolding slotRefusal
-slot-near tags i h g = split (ltb i 64) (λ y. ltb-true i 64 y) (λ f. absurd (let z : 0 ≡ 6 = sym g ∙ (rw f at h) in omega arith))
+pub slot-near : (tags : List ℕ) (e : Event) {n : ℕ} → n ≡ slotRefusal tags e → n ≡ 0 → e .amount < 64
+unfolding slotRefusal table given
+slot-near tags e h g =
+    split (ltb 63 (e .amount)) (λ y. absurd (let z : 0 ≡ 6 = sym g ∙ (rw y at h) in omega arith)) (λ f. omega (arith, ltb-false 63 (e .amount) f))
 
 -- two views of a line's nine cells that agree
 module _ {f g : ℕ → Cell} (same : (n : ℕ) → n < 9 → f n ≡ g n) where
@@ -109,6 +113,5 @@ module _ {f g : ℕ → Cell} (same : (n : ℕ) → n < 9 → f n ≡ g n) where
       rw (lowest-same (λ c. c .owner), lowest-same (λ c. c .valid), lowest-same (λ c. c .backup))
       (found (lowest g (λ c. c .owner)) (λ c. c .word) (found (lowest g (λ c. c .valid)) (λ c. c .word) (found (lowest g (λ c. c .backup)) (λ c. c .saved) refl)))
 
-  pub after-same : (n node w j : ℕ) → j < 9 → afterRecreation n node w f j ≡ afterRecreation n node w g j
-  unfolding afterRecreation
-  after-same n node w j l = rw (same j l)
+  pub after-same : (n node j : ℕ) → j < 9 → recreatedLine n node f j ≡ recreatedLine n node g j
+  after-same n node j l = rw (word-same, same j l)

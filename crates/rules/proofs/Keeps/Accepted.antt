@@ -2,40 +2,22 @@
 use Prim.Native.Nat.{ℕ, zero, suc, _≤_, _<_}
 use mathlib.Core.Path.{_≡_, refl}
 use mathlib.Core.Logic.{_≢_}
-use mathlib.Core.Bool.{Bool, true, false, not, _&&_, _||_}
-use mathlib.Core.List.{List, [], _∷_}
+use mathlib.Core.Bool.{true, false, or-true}
 use native.Mathlib.Omega.{arith}
-use borrow.Author.Tests.{ltb-true, ltb-false, leb-false, eqb-false, not-false}
+use borrow.Author.Tests.{ltb-false, leb-false, eqb-false, eq-eqb, not-false}
 use lib.Dec.{eqb, ltb}
-use lib.ListN.{getD}
-use Rattle.rules.specs.Types.{State, Event}
+use Rattle.rules.specs.Types.{Cell, State, Event}
 use Rattle.rules.specs.States.{cellAt, serialAt}
-use Rattle.rules.specs.Refusals.{sending, timeout, slotted, forCaches, Row, row, table, given, refusal, cellOf, freeAt, lowestFree, copyless, unborne, next}
+use Rattle.rules.specs.Refusals.{timeout, slotted, forCaches, wrongAmount, wrongOwner, seen, table, tableOf, refusal, cellOf, freeAt, lowestFree, copyless, unborne, next}
 use Rattle.rules.specs.Cells.{ableToRead, ableToWrite}
-use Rattle.rules.proofs.Laws.Bools.{split, and-left, and-right, or-left, or-right}
+use Rattle.rules.proofs.Laws.Bools.{clash, split, or-left}
 use Rattle.rules.proofs.Laws.Sums.{first-hit, first-le}
-
--- the numbers of the rows are not 0
-unfoldable pub numbered : List Row → Bool
-numbered [] = true
-numbered (r ∷ rs) = ltb 0 (r .number) && numbered rs
-
--- no row applies; the row of number n stands at n - 1
-unfoldable pub Clear : List Row → Type 0
-Clear rs = (i : ℕ) → getD rs i (row 0 false) .applies ≡ false
-
-pub clear : (rs : List Row) → numbered rs ≡ true → given rs ≡ 0 → Clear rs
-unfolding numbered given Clear
-clear [] n h i = refl
-clear (r ∷ rs) n h i =
-    split (r .applies)
-    (λ t. absurd (omega (arith, ltb-true 0 (r .number) (and-left _ _ n), rw t at h)))
-    (λ f. elim i [ zero ↦ f | suc j ↦ clear rs (and-right (ltb 0 (r .number)) (numbered rs) n) (rw f at h) j ])
+use Rattle.rules.proofs.Laws.Rows.{applies, Clear, clear}
 
 -- an event that is accepted meets no row
-pub accepted : (s : State) (e : Event) → refusal s e ≡ 0 → Clear (table s e (e .kind))
-unfolding refusal table numbered
-accepted s e h = clear (table s e (e .kind)) refl h
+pub accepted : (s : State) (e : Event) → refusal s e ≡ 0 → Clear (tableOf s e (e .kind))
+unfolding refusal
+accepted s e h = clear (seen s e) e (e .kind) h
 
 -- by the kinds
 pub by-kind : (P : ℕ → Type 0) → P 0 → P 1 → P 2 → P 3 → P 4 → P 5 → P 6 → P 7 → P 8 → P 9 → (k : ℕ) → k ≤ 9 → P k
@@ -51,9 +33,9 @@ by-kind P p0 p1 p2 p3 p4 p5 p6 p7 p8 p9 (suc (suc (suc (suc (suc (suc (suc (suc 
 by-kind P p0 p1 p2 p3 p4 p5 p6 p7 p8 p9 (suc (suc (suc (suc (suc (suc (suc (suc (suc zero))))))))) h = p9
 by-kind P p0 p1 p2 p3 p4 p5 p6 p7 p8 p9 (suc (suc (suc (suc (suc (suc (suc (suc (suc (suc k)))))))))) h = absurd (omega arith)
 
-pub kind-small : (s : State) (e : Event) (k : ℕ) → Clear (table s e k) → k ≤ 9
-unfolding Clear table
-kind-small s e k c = ltb-false 9 k (or-left _ _ (c 1))
+pub kind-small : (s : State) (e : Event) (k : ℕ) → Clear (tableOf s e k) → k ≤ 9
+unfolding Clear applies table
+kind-small s e k c = ltb-false 9 k (or-left _ _ (c 2))
 
 -- the line and the node that the event names are within the sizes
 pub record Named (s : State) (e : Event) : Type 0 where
@@ -86,59 +68,73 @@ pub record Sends (s : State) (e : Event) : Type 0 where
   pub room : lowestFree s < 64
   pub free : freeAt s (lowestFree s) ≡ true
 
+-- what a send has from the rows that look at its sender's cell
+module _ (e : Event) (x : Cell) where
+  amount-some : wrongAmount e x ≡ false → 1 ≤ e .amount
+  amount-some h = split (eqb (e .amount) 0) (λ t. clash (rw t) h) (λ f. omega (arith, eqb-false (e .amount) 0 f))
+
+  amount-within : wrongAmount e x ≡ false → e .amount ≤ x .tokens .0
+  amount-within h = split (ltb (x .tokens .0) (e .amount)) (λ t. clash (rw (t, or-true)) h) (λ f. ltb-false _ _ f)
+
+  amount-keeps : wrongAmount e x ≡ false → eqb (e .owner) 1 ≡ false → x .owner ≡ true → e .amount ≢ x .tokens .0
+  amount-keeps h f o q = clash (rw (f, o, eq-eqb (e .amount) (x .tokens .0) q, or-true)) h
+
+  owner-owned : wrongOwner e x ≡ false → eqb (e .owner) 1 ≡ true → x .owner ≡ true
+  owner-owned h t = split (x .owner) (λ o. o) (λ f. clash (rw (t, f)) h)
+
+  owner-full : wrongOwner e x ≡ false → eqb (e .owner) 1 ≡ true → eqb (e .full) 1 ≡ true
+  owner-full h t = split (eqb (e .full) 1) (λ o. o) (λ f. clash (rw (t, f, or-true)) h)
+
 module _ (s : State) (e : Event) where
-  pub names : (k : ℕ) → slotted k ≡ false → Clear (table s e k) → Named s e
-  unfolding Clear table
+  pub names : (k : ℕ) → slotted k ≡ false → Clear (tableOf s e k) → Named s e
+  unfolding Clear applies table
   names k h c =
       record {
-        line = leb-false _ _ (rw h at (c 2));
-        node = ltb-false _ _ (or-left (ltb (s .sizes .caches) (e .node)) (sending k && ltb (s .sizes .caches) (e .other)) (rw h at (c 3)));
+        line = leb-false _ _ (rw h at (c 3));
+        node = split (ltb (s .sizes .caches) (e .node)) (λ t. clash (rw (h, t)) (c 4)) (λ f. ltb-false _ _ f);
       }
 
-  pub caches : (k : ℕ) → slotted k ≡ false → forCaches k ≡ true → Clear (table s e k) → Cached s e
-  unfolding Clear table
-  caches k h g c = record { named = names k h c; cache = rw g at (c 4) }
+  pub caches : (k : ℕ) → slotted k ≡ false → forCaches k ≡ true → Clear (tableOf s e k) → Cached s e
+  unfolding Clear applies table
+  caches k h g c = record { named = names k h c; cache = rw g at (c 5) }
 
-  pub times : (k : ℕ) → slotted k ≡ false → timeout k ≡ true → Clear (table s e k) → Timeout s e
-  unfolding Clear table
-  times k h g c = record { named = names k h c; unborne = not-false _ (rw g at (c 16)); copy = rw g at (c 17) }
+  pub times : (k : ℕ) → slotted k ≡ false → timeout k ≡ true → Clear (tableOf s e k) → Timeout s e
+  unfolding Clear applies table
+  times k h g c = record { named = names k h c; unborne = not-false _ (rw g at (c 17)); copy = rw g at (c 18) }
 
   -- a slot that holds a message
-  pub slots : (k : ℕ) → slotted k ≡ true → Clear (table s e k) → (e .amount < 64) × (freeAt s (e .amount) ≡ false)
-  unfolding Clear table
-  slots k h c =
-      let r : ltb 63 (e .amount) || freeAt s (e .amount) ≡ false = rw h at (c 5) in
-      (omega (arith, ltb-false 63 (e .amount) (or-left _ _ r)), or-right (ltb 63 (e .amount)) (freeAt s (e .amount)) r)
+  pub slots : (k : ℕ) → slotted k ≡ true → Clear (tableOf s e k) → (e .amount < 64) × (freeAt s (e .amount) ≡ false)
+  unfolding Clear applies table
+  slots k h c = (
+    split (ltb 63 (e .amount)) (λ t. clash (rw (h, t)) (c 6)) (λ f. omega (arith, ltb-false 63 (e .amount) f)),
+    split (freeAt s (e .amount)) (λ t. clash (rw (h, t, or-true)) (c 6)) (λ f. f),
+  )
 
-  pub reads : Clear (table s e 0) → ableToRead (cellOf s e) ≡ true
-  unfolding Clear table
-  reads c = not-false _ (or-left _ _ (c 12))
+  pub reads : Clear (tableOf s e 0) → ableToRead (cellOf s e) ≡ true
+  unfolding Clear applies table
+  reads c = split (ableToRead (cellOf s e)) (λ t. t) (λ f. clash (rw f) (c 13))
 
-  pub writes : Clear (table s e 1) → ableToWrite (s .sizes .total .0) (cellOf s e) ≡ true
-  unfolding Clear table
-  writes c = not-false _ (c 12)
+  pub writes : Clear (tableOf s e 1) → ableToWrite (s .sizes .total .0) (cellOf s e) ≡ true
+  unfolding Clear applies table
+  writes c = split (ableToWrite (s .sizes .total .0) (cellOf s e)) (λ t. t) (λ f. clash (rw f) (c 13))
 
-  pub sends : Clear (table s e 2) → Sends s e
-  unfolding Clear table lowestFree
+  pub sends : Clear (tableOf s e 2) → Sends s e
+  unfolding Clear applies table lowestFree
   sends c =
       let x = cellOf s e in
-      let o = eqb (e .owner) 1 in
-      let few = or-left (eqb (e .amount) 0 || ltb (x .tokens .0) (e .amount)) (not o && x .owner && eqb (e .amount) (x .tokens .0)) (c 7) in
-      let part = or-right (eqb (e .amount) 0 || ltb (x .tokens .0) (e .amount)) (not o && x .owner && eqb (e .amount) (x .tokens .0)) (c 7) in
-      let none = eqb-false (e .amount) 0 (or-left (eqb (e .amount) 0) (ltb (x .tokens .0) (e .amount)) few) in
-      let full = eqb-false (lowestFree s) 64 (c 11) in
+      let full = eqb-false (lowestFree s) 64 (c 12) in
       let room : lowestFree s < 64 = omega (arith, first-le 64 (λ i. freeAt s i)) in
       record {
         named = names 2 refl c;
-        other = ltb-false _ _ (or-right (ltb (s .sizes .caches) (e .node)) (ltb (s .sizes .caches) (e .other)) (c 3));
-        apart = c 6;
-        some = omega (arith, none);
-        within = ltb-false _ _ (or-right (eqb (e .amount) 0) (ltb (x .tokens .0) (e .amount)) few);
-        keeps = λ h g. eqb-false (e .amount) (x .tokens .0) (rw (h, g) at part);
-        owner = λ h. not-false (x .owner) (rw h at (or-left (o && not (x .owner)) (o && not (eqb (e .full) 1)) (c 8)));
-        full = λ h. not-false (eqb (e .full) 1) (rw h at (or-right (o && not (x .owner)) (o && not (eqb (e .full) 1)) (c 8)));
-        unblocked = λ h. rw h at (c 9);
-        valid = λ h. not-false _ (rw h at (c 10));
+        other = split (ltb (s .sizes .caches) (e .other)) (λ t. clash (rw (t, or-true)) (c 4)) (λ f. ltb-false _ _ f);
+        apart = c 7;
+        some = amount-some e x (c 8);
+        within = amount-within e x (c 8);
+        keeps = amount-keeps e x (c 8);
+        owner = owner-owned e x (c 9);
+        full = owner-full e x (c 9);
+        unblocked = λ h. rw h at (c 10);
+        valid = λ h. split (x .valid) (λ t. t) (λ f. clash (rw (h, f)) (c 11));
         room = room;
         free = first-hit 64 (λ i. freeAt s i) room;
       }

@@ -4,13 +4,13 @@ use mathlib.Core.Path.{_≡_, refl, ap, subst}
 use mathlib.Core.Bool.{true, false}
 use native.Mathlib.Omega.{arith}
 use lib.Dec.{eqb}
-use Rattle.rules.specs.Types.{Cell, MessageKind, Free, Tokens, OwnershipAck, DeletionAck, Message, State, Event, Stepped}
+use Rattle.rules.specs.Types.{Cell, MessageKind, Free, Tokens, OwnershipAck, DeletionAck, Message, State, Event, Arrival, Stepped}
 use Rattle.rules.specs.Tools.{pick}
 use Rattle.rules.specs.States.{slotAt, serialAt, freeMessage, bears, withSlot}
 use Rattle.rules.specs.WellFormed.{messageFine, counted, inCells, inMessages, held, borne, tokensOf}
 use Rattle.rules.specs.Cells.{received, settled, unbacked, unblocked}
 use Rattle.rules.specs.Refusals.{freeAt}
-use Rattle.rules.specs.Effects.{answered, ack, target, landed, emptied, arrive, deliverOf}
+use Rattle.rules.specs.Effects.{answer, ack, target, landed, emptied, arrival, discarded, arrive, delivered, replyOf, leaves, deliverOf}
 use Rattle.rules.proofs.Laws.Bools.{by-pick}
 use Rattle.rules.proofs.Laws.Cells.{received-is}
 use Rattle.rules.proofs.Laws.Views.{Sized, same-cell}
@@ -62,27 +62,41 @@ module _ (s : State) (i : ℕ) where
         number = refl;
       }
 
-  lands : {c : Cell} {r : Message} (w j : ℕ) → Arrives s i c r → Landed s i (answered (landed s i (slotAt s i) c r) 0 w j)
-  lands {c} {r} w j h = record { cell = c; reply = r; how = h; state = refl; number = refl }
+  lands : (a : Arrival) → a .answer .number ≡ 0 → Arrives s i (a .cell) (replyOf (a .reply) (current s i) (slotAt s i))
+      → Landed s i (leaves s i (current s i) (slotAt s i) a)
+  lands a n h = record { cell = a .cell; reply = replyOf (a .reply) (current s i) (slotAt s i); how = h; state = refl; number = n }
 
-  arrivals : Live s i → (k : MessageKind) → slotAt s i .kind ≡ k → Landed s i (arrive s i (slotAt s i) (current s i) k)
-  unfolding arrive
-  arrivals g Free e = empties
+  -- a message that is discarded
+  discards : Landed s i (leaves s i (current s i) (slotAt s i) (discarded (target s (slotAt s i))))
+  unfolding replyOf
+  discards = lands (discarded (target s (slotAt s i))) refl gone
+
+  arrivals : Live s i → (k : MessageKind) → slotAt s i .kind ≡ k
+      → Landed s i (leaves s i (current s i) (slotAt s i) (arrive (s .sizes .total .0) i (target s (slotAt s i)) (slotAt s i) k))
+  unfolding arrive replyOf
+  arrivals g Free e = discards
   arrivals g Tokens e =
-      by-pick (λ r. Landed s i (answered (landed s i (slotAt s i) (joining s i) r) 0 1 (pick (slotAt s i .owner) i 64))) (slotAt s i .owner)
-      (λ t. lands 1 _ (ownership g e t))
-      (λ f. lands 1 _ (tokens g e f))
+      by-pick
+      (λ k. Landed s i (leaves s i (current s i) (slotAt s i) (arrival (joining s i) k (answer 0 1 (pick (slotAt s i .owner) i 64)))))
+      (slotAt s i .owner)
+      (λ t. lands (arrival (joining s i) OwnershipAck _) refl (ownership g e t))
+      (λ f. lands (arrival (joining s i) Free _) refl (tokens g e f))
   arrivals g OwnershipAck e =
-      by-pick (Landed s i) (target s (slotAt s i) .backup) (λ t. lands 1 i (acknowledged g e t)) (λ _. empties)
+      by-pick (λ a. Landed s i (leaves s i (current s i) (slotAt s i) a)) (target s (slotAt s i) .backup)
+      (λ t. lands (arrival (unbacked (target s (slotAt s i))) DeletionAck (answer 0 1 i)) refl (acknowledged g e t))
+      (λ _. discards)
   arrivals g DeletionAck e =
-      by-pick (Landed s i) (target s (slotAt s i) .blocked) (λ t. lands 1 64 (deleted g e t)) (λ _. empties)
+      by-pick (λ a. Landed s i (leaves s i (current s i) (slotAt s i) a)) (target s (slotAt s i) .blocked)
+      (λ t. lands (arrival (unblocked (target s (slotAt s i))) Free (answer 0 1 64)) refl (deleted g e t))
+      (λ _. discards)
 
 pub delivers : (s : State) (e : Event) → Landed s (e .amount) (deliverOf s e)
-unfolding deliverOf
+unfolding deliverOf delivered
 delivers s e =
-    by-pick (Landed s (e .amount)) (eqb (slotAt s (e .amount) .serial .0) (current s (e .amount)))
-    (λ g. arrivals s (e .amount) g (slotAt s (e .amount) .kind) refl)
-    (λ _. empties s (e .amount))
+    let i = e .amount in
+    by-pick (λ a. Landed s i (leaves s i (current s i) (slotAt s i) a)) (eqb (slotAt s i .serial .0) (current s i))
+    (λ g. arrivals s i g (slotAt s i .kind) refl)
+    (λ _. discards s i)
 
 module _ {s : State} (z : Sized s) (w : Well s) (i : ℕ) (hi : i < 64) (f : freeAt s i ≡ false) where
   pub landed-change : (c : Cell) (r : Message)

@@ -3,7 +3,7 @@ use Prim.Native.Nat.{ℕ, _≤_, _<_}
 use mathlib.Core.Path.{_≡_, refl, sym, ap}
 use mathlib.Core.Bool.{true, false, not}
 use native.Mathlib.Omega.{arith}
-use borrow.Author.Tests.{ltb-true, leb-true, eqb-false, not-true, lt-ltb, le-leb, ne-eqb}
+use borrow.Author.Tests.{ltb-true, leb-true, eqb-true, eqb-false, not-true, lt-ltb, le-leb, ne-eqb}
 use lib.Dec.{eqb}
 use Rattle.rules.specs.Types.{MessageKind, Free, Tokens, OwnershipAck, DeletionAck, Message, Sizes}
 use Rattle.rules.specs.Tools.{every}
@@ -70,6 +70,13 @@ unfolding messageZero ackFine
 tokened (empty _ h) = let e = every-all _ h in search not-bit-le
 tokened {m = m} (token _ _ t) = let o = bit-small (m .owner) in let f = bit-small (m .full) in omega arith
 tokened (bare _ _ h) = let e = every-all _ h in search not-bit-le
+
+-- no message has more than all tokens
+pub within-total : {z : Sizes} {m : Message} {k : MessageKind} → Sort z m k → m .tokens .0 ≤ z .total .0
+unfolding messageZero ackFine
+within-total {m = m} (empty _ h) = let e = every-all _ h in omega (arith, eqb-true (m .tokens .0) 0 (e .1 .1 .1 .1 .0))
+within-total (token _ _ t) = t .most
+within-total {m = m} (bare _ _ h) = let e = every-all _ h in omega (arith, eqb-true (m .tokens .0) 0 (e .0))
 
 module _ (z : Sizes) where
   pub has-tokens : (m : Message) → messageFine z m Tokens ≡ true → TokensOk z m

@@ -5,13 +5,13 @@ use mathlib.Core.Logic.{_≢_}
 use mathlib.Core.Bool.{true}
 use native.Mathlib.Omega.{arith}
 use native.Mathlib.Decide.{ℕ-discrete}
-use borrow.Author.Tests.{leb-true, eqb-false, lt-ltb, le-leb, eq-eqb, ne-eqb, not-true}
-use lib.Dec.{eqb, leb}
+use borrow.Author.Tests.{leb-true, ltb-true, lt-ltb, le-leb, eq-eqb, ne-eqb, not-true}
+use lib.Dec.{leb, ltb}
 use Rattle.rules.specs.Types.{Cell, State, Event}
 use Rattle.rules.specs.States.{cellAt, serialAt}
 use Rattle.rules.specs.WellFormed.{held, borne, cellFine, serialFine, inCells, inMessages, tokensOf}
 use Rattle.rules.specs.Refusals.{next, unborne}
-use Rattle.rules.specs.Effects.{wordFor, afterRecreation, recreateOf}
+use Rattle.rules.specs.Effects.{wordFor, afterRecreation, recreatedLine, recreateOf}
 use Rattle.rules.specs.Cells.{cleared, recreated, settled}
 use Rattle.rules.proofs.Laws.Bools.{by-pick}
 use Rattle.rules.proofs.Laws.Sums.{all-at}
@@ -19,21 +19,20 @@ use Rattle.rules.proofs.Laws.Views.{Sized}
 use Rattle.rules.proofs.Laws.Sole.{Sole, sole-cells, sole-messages}
 use Rattle.rules.proofs.Laws.Renewals.{Renewed, renewed, other-cells, other-messages}
 use Rattle.rules.proofs.Keeps.Cells.{ok-cell, settled-ok, cleared-ok, cleared-zero, recreated-ok}
-use Rattle.rules.proofs.Keeps.Well.{Well, WellIn, sizes-ok, cell-in, serial-small}
+use Rattle.rules.proofs.Keeps.Well.{Well, WellIn, sizes-ok, cell-in}
 use Rattle.rules.proofs.Keeps.Accepted.{Timeout}
 
 -- the next serial is in range
-next-small : (q : ℕ) → q < 4 → next q < 4
+next-small : (q : ℕ) → next q < 4
 unfolding next
-next-small q h =
-    by-pick (λ x. x < 4) (eqb q 3) (λ _. omega arith) (λ f. let d = eqb-false q 3 f in omega (arith, d))
+next-small q = by-pick (λ x. x < 4) (ltb q 3) (λ t. omega (arith, ltb-true q 3 t)) (λ _. omega arith)
 
 -- the word of a recreation, and the line's cells after it, node by node
 abbrev pub wordOf : State → Event → ℕ
 wordOf s e = wordFor (cellAt s (e .line))
 
 abbrev pub renewing : State → Event → ℕ → Cell
-renewing s e = afterRecreation (s .sizes .total .0) (e .node) (wordOf s e) (cellAt s (e .line))
+renewing s e = recreatedLine (s .sizes .total .0) (e .node) (cellAt s (e .line))
 
 abbrev pub renewedCell : State → Event → Cell
 renewedCell s e = settled (s .sizes .total .0) (recreated (s .sizes .total .0) (wordOf s e) (cellAt s (e .line) (e .node)))
@@ -72,7 +71,7 @@ module _ {s : State} (z : Sized s) (w : Well s) (e : Event) (t : Timeout s e) wh
   unfolding serialFine
   serials k hk =
       elim (ℕ-discrete k (e .line)) [
-        | yes x ↦ rw (x, change .serial, lt-ltb (e .line) (s .sizes .lines) (t .named .line)) (lt-ltb (next (serialAt s (e .line))) 4 (next-small _ (serial-small w (t .named .line))))
+        | yes x ↦ rw (x, change .serial, lt-ltb (e .line) (s .sizes .lines) (t .named .line)) (lt-ltb (next (serialAt s (e .line))) 4 (next-small _))
         | no d ↦ rw (change .other-serial k d) (w .serials k hk)
       ]
 

@@ -1,5 +1,5 @@
 -- Well formed, as facts. Assumes nothing.
-use Prim.Native.Nat.{ℕ, _≤_, _<_}
+use Prim.Native.Nat.{ℕ, _+_, _≤_, _<_}
 use mathlib.Core.Path.{_≡_, subst}
 use mathlib.Core.Bool.{true, false, _&&_}
 use native.Mathlib.Omega.{arith}
@@ -13,7 +13,7 @@ use Rattle.rules.proofs.Laws.Bools.{split, every-all, all-every}
 use Rattle.rules.proofs.Laws.Sums.{all-at, at-all}
 use Rattle.rules.proofs.Laws.Changes.{Place}
 use Rattle.rules.proofs.Keeps.Cells.{Marks, CellOk, cell-ok, zero-marks}
-use Rattle.rules.proofs.Keeps.Messages.{AddressOk, TokensOk, Sort, sort, has-address, has-tokens}
+use Rattle.rules.proofs.Keeps.Messages.{AddressOk, TokensOk, Sort, sort, has-address, has-tokens, within-total}
 
 -- well formed at some sizes, as facts; and at the state's own
 pub record WellIn (z : Sizes) (s : State) : Type 0 where
@@ -124,5 +124,10 @@ module _ (s : State) (h : wellFormed s ≡ true) where
   pub well-address : (i : ℕ) → i < 64 → freeAt s i ≡ false → AddressOk (s .sizes) (slotAt s i)
   well-address i l f = slot-address (well h) i l f
 
-  pub well-tokens : (i : ℕ) → i < 64 → slotAt s i .kind ≡ Tokens → TokensOk (s .sizes) (slotAt s i)
-  well-tokens i l e = slot-tokens (well h) i l e
+  -- the tokens of a message, and of the cell that it is for
+  pub well-fits : (i : ℕ) → i < 64 → freeAt s i ≡ false
+      → cellAt s (slotAt s i .line) (slotAt s i .destination) .tokens .0 + slotAt s i .tokens .0 < 256
+  well-fits i l f =
+      let a = well-address i l f in
+      let z = well-sizes in
+      omega (arith, well-count (slotAt s i .line) (slotAt s i .destination) (a .line) (a .destination), within-total (slot-sort (well h) i l))

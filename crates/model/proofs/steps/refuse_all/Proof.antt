@@ -23,9 +23,6 @@ loop-holds c = (omega arith, refl, refuse-begins (c .before .args .n) (c .before
 mul-put : tie.Need-mul-put Inv-loop μ-loop
 mul-put c = search needs
 
-answer-requires : tie.Need-answer-requires Inv-loop μ-loop
-answer-requires c κs = search needs
-
 put-requires : tie.Need-put-requires Inv-loop μ-loop
 put-requires c κs = search needs
 
@@ -36,7 +33,7 @@ loop-less : tie.Need-loop-less Inv-loop μ-loop
 loop-less c = search needs
 
 loop-again : tie.Need-loop-again Inv-loop μ-loop
-loop-again c = let l = c .before .before .before .before .before .before .loop in (omega arith, ap length (c .before .before .put .ensures) ∙ simp length-set (l .inv .1), refuse-more (l .answers) (c .before .before .before .before .before .loop-test .taken) (c .before .before .before .answer .ensures) (c .before .before .put .ensures) (l .inv .2))
+loop-again c = let l = c .before .before .before .before .before .loop in (omega arith, ap length (c .before .before .put .ensures) ∙ simp length-set (l .inv .1), refuse-more (l .answers) (c .before .before .before .before .loop-test .taken) refl (c .before .before .put .ensures) (l .inv .2))
 
 same-length : tie.Need-same-length Inv-loop μ-loop
 same-length c = search needs
@@ -52,7 +49,6 @@ refuse-all-spec =
     μ-loop
     loop-holds
     mul-put
-    answer-requires
     put-requires
     add-i
     loop-less

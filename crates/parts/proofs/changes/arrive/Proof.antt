@@ -1,5 +1,5 @@
 use mathlib.Core.Path.{_∙_, ap, sym}
-use Rattle.parts.specs.Changes.{arriveBy}
+use Rattle.rules.specs.Effects.{arrive}
 use borrow.Author.Needs.{needs}
 use Rattle.parts.proofs.changes.arrive.Statement.{statement}
 use Rattle.parts.proofs.changes.arrive.Tie as tie
@@ -14,7 +14,7 @@ enum-told-2 : tie.Need-enum-told-2
 enum-told-2 c = search needs
 
 arrive-tokens-requires : tie.Need-arrive-tokens-requires
-arrive-tokens-requires c κs = c .before .before .pre (c .enum-told2 .given .1)
+arrive-tokens-requires c κs = c .before .before .pre
 
 enum-told-3 : tie.Need-enum-told-3
 enum-told-3 c = search needs
@@ -29,19 +29,19 @@ arrive-deletion-ack-requires : tie.Need-arrive-deletion-ack-requires
 arrive-deletion-ack-requires c κs = search needs
 
 returns : tie.Need-returns
-unfolding arriveBy
-returns c = c .discarded .ensures ∙ sym (ap (arriveBy _ _ _ _) (c .before .enum-told .given .1))
+unfolding arrive
+returns c = c .discarded .ensures ∙ sym (ap (arrive _ _ _ _) (c .before .enum-told .given .1))
 
 returns-2 : tie.Need-returns-2
-returns-2 c = c .arrive-tokens .ensures ∙ sym (ap (arriveBy _ _ _ _) (c .before .enum-told2 .given .1))
+returns-2 c = c .arrive-tokens .ensures ∙ sym (ap (arrive _ _ _ _) (c .before .enum-told2 .given .1))
 
 returns-3 : tie.Need-returns-3
-unfolding arriveBy
-returns-3 c = c .arrive-ownership-ack .ensures ∙ sym (ap (arriveBy _ _ _ _) (c .before .enum-told3 .given .1))
+unfolding arrive
+returns-3 c = c .arrive-ownership-ack .ensures ∙ sym (ap (arrive _ _ _ _) (c .before .enum-told3 .given .1))
 
 returns-4 : tie.Need-returns-4
-unfolding arriveBy
-returns-4 c = c .arrive-deletion-ack .ensures ∙ sym (ap (arriveBy _ _ _ _) (c .before .enum-told4 .given .1))
+unfolding arrive
+returns-4 c = c .arrive-deletion-ack .ensures ∙ sym (ap (arrive _ _ _ _) (c .before .enum-told4 .given .1))
 
 pub arrive-spec : {M : Type 1} → statement M
 arrive-spec =

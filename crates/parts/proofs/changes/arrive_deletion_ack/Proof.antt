@@ -1,4 +1,4 @@
-use Rattle.parts.specs.Changes.{deletionAcked}
+use Rattle.rules.specs.Effects.{arrive}
 use borrow.Author.Needs.{needs}
 use Rattle.parts.proofs.changes.arrive_deletion_ack.Statement.{statement}
 use Rattle.parts.proofs.changes.arrive_deletion_ack.Tie as tie
@@ -13,11 +13,11 @@ discarded-requires : tie.Need-discarded-requires
 discarded-requires c κs = search needs
 
 returns : tie.Need-returns
-unfolding deletionAcked
+unfolding arrive
 returns c = rw (c .before .unblock .ensures, c .answer .ensures, c .before .before .if1 .taken)
 
 returns-2 : tie.Need-returns-2
-unfolding deletionAcked
+unfolding arrive
 returns-2 c = rw (c .discarded .ensures, c .before .if1 .left)
 
 pub arrive-deletion-ack-spec : {M : Type 1} → statement M

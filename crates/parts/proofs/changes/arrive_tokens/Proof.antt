@@ -1,4 +1,4 @@
-use Rattle.parts.specs.Changes.{arriveBy}
+use Rattle.rules.specs.Effects.{arrive}
 use borrow.Author.Needs.{needs}
 use Rattle.parts.proofs.changes.arrive_tokens.Statement.{statement}
 use Rattle.parts.proofs.changes.arrive_tokens.Tie as tie
@@ -16,11 +16,11 @@ answer-requires-2 : tie.Need-answer-requires-2
 answer-requires-2 c κs = search needs
 
 returns : tie.Need-returns
-unfolding arriveBy
+unfolding arrive
 returns c = rw (c .answer .ensures, c .before .before .settle .ensures, c .before .before .before .receive .ensures, c .before .if1 .taken)
 
 returns-2 : tie.Need-returns-2
-unfolding arriveBy
+unfolding arrive
 returns-2 c = rw (c .answer2 .ensures, c .before .before .settle .ensures, c .before .before .before .receive .ensures, c .before .if1 .left)
 
 pub arrive-tokens-spec : {M : Type 1} → statement M

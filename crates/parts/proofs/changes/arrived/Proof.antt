@@ -1,5 +1,6 @@
 use Rattle.rules.proofs.Facts.Bools.{told}
 use Rattle.parts.specs.Changes.{arriveOf}
+use Rattle.parts.proofs.Facts.Changes.{unlost}
 use borrow.Author.Needs.{needs}
 use Rattle.parts.proofs.changes.arrived.Statement.{statement}
 use Rattle.parts.proofs.changes.arrived.Tie as tie
@@ -11,7 +12,7 @@ discarded-requires : tie.Need-discarded-requires
 discarded-requires c κs = search needs
 
 arrive-requires : tie.Need-arrive-requires
-arrive-requires c κs = search needs
+arrive-requires c κs = unlost _ _ _ _ (c .before .lost .ensures) (c .if1 .left)
 
 returns : tie.Need-returns
 unfolding arriveOf

@@ -1,5 +1,5 @@
 use Rattle.rules.proofs.Facts.Bools.{told}
-use Rattle.parts.specs.Changes.{replyOf}
+use Rattle.rules.specs.Effects.{replyOf}
 use borrow.Author.Needs.{needs}
 use Rattle.parts.proofs.changes.reply.Statement.{statement}
 use Rattle.parts.proofs.changes.reply.Tie as tie

@@ -1,4 +1,3 @@
-use native.Mathlib.Omega.{arith}
 use borrow.Author.Needs.{needs}
 use Rattle.parts.proofs.changes.sent_message.Statement.{statement}
 use Rattle.parts.proofs.changes.sent_message.Tie as tie
@@ -6,20 +5,22 @@ use Rattle.parts.proofs.changes.sent_message.Tie as tie
 either-requires : tie.Need-either-requires
 either-requires c κs = search needs
 
-cast-t7 : tie.Need-cast-t7
-cast-t7 c = search needs
+low-requires : tie.Need-low-requires
+low-requires c κs = search needs
 
-cast-t8 : tie.Need-cast-t8
-cast-t8 c = search needs
+low-requires-2 : tie.Need-low-requires-2
+low-requires-2 c κs = search needs
 
-cast-t9 : tie.Need-cast-t9
-cast-t9 c = search needs
+low-requires-3 : tie.Need-low-requires-3
+low-requires-3 c κs = search needs
 
-cast-t10 : tie.Need-cast-t10
-cast-t10 c = omega (arith, c .before .before .before .before .before .before .good .1 .1 .0, c .before .before .before .before .before .before .pre)
+low-requires-4 : tie.Need-low-requires-4
+low-requires-4 c κs = search needs
 
 returns : tie.Need-returns
-returns c = rw (c .before .before .before .before .before .either .ensures)
+returns c = rw (c .before .low4 .ensures, c .before .before .low3 .ensures, c .before .before .before .low2 .ensures, c .before .before .before .before .low .ensures, c .before .before .before .before .before .either .ensures)
 
 pub sent-message-spec : {M : Type 1} → statement M
-sent-message-spec = tie.close (tie.spec either-requires cast-t7 cast-t8 cast-t9 cast-t10 returns)
+sent-message-spec =
+    tie.close
+    (tie.spec either-requires low-requires low-requires-2 low-requires-3 low-requires-4 returns)

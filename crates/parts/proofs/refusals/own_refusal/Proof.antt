@@ -46,28 +46,28 @@ either-requires-9 : tie.Need-either-requires-9
 either-requires-9 c κs = search needs
 
 returns : tie.Need-returns
-returns c = own-read _ _ _ (c .before .before .match .keys1) (c .before .able-to-read .ensures) (c .either .ensures)
+returns c = own-read _ _ _ _ (c .before .before .match .keys1) (c .before .able-to-read .ensures) (c .either .ensures)
 
 returns-2 : tie.Need-returns-2
-returns-2 c = own-write _ _ _ (c .before .before .match .keys2) (c .before .able-to-write .ensures) (c .either2 .ensures)
+returns-2 c = own-write _ _ _ _ (c .before .before .match .keys2) (c .before .able-to-write .ensures) (c .either2 .ensures)
 
 returns-3 : tie.Need-returns-3
-returns-3 c = own-want-read _ _ _ (c .before .before .before .match .keys3) (c .before .before .before .before .is-nothing .ensures) (c .before .before .able-to-read2 .ensures) (c .before .either3 .ensures) (c .either4 .ensures)
+returns-3 c = own-want-read _ _ _ _ (c .before .before .before .match .keys3) (c .before .before .before .before .is-nothing .ensures) (c .before .before .able-to-read2 .ensures) (c .before .either3 .ensures) (c .either4 .ensures)
 
 returns-4 : tie.Need-returns-4
-returns-4 c = own-want-write _ _ _ (c .before .before .before .match .keys4) (c .before .before .before .before .is-nothing .ensures) (c .before .before .able-to-write2 .ensures) (c .before .either5 .ensures) (c .either6 .ensures)
+returns-4 c = own-want-write _ _ _ _ (c .before .before .before .match .keys4) (c .before .before .before .before .is-nothing .ensures) (c .before .before .able-to-write2 .ensures) (c .before .either5 .ensures) (c .either6 .ensures)
 
 returns-5 : tie.Need-returns-5
-returns-5 c = own-lost-token _ _ _ (c .before .match .keys5) (c .before .before .is-nothing .ensures) (c .either7 .ensures)
+returns-5 c = own-lost-token _ _ _ _ (c .before .match .keys5) (c .before .before .is-nothing .ensures) (c .either7 .ensures)
 
 returns-6 : tie.Need-returns-6
-returns-6 c = own-lost-data _ _ _ (c .before .match .keys6) (c .either8 .ensures)
+returns-6 c = own-lost-data _ _ _ _ (c .before .match .keys6) (c .either8 .ensures)
 
 returns-7 : tie.Need-returns-7
-returns-7 c = own-lost-ack _ _ _ (c .before .match .keys7) (c .either9 .ensures)
+returns-7 c = own-lost-ack _ _ _ _ (c .before .match .keys7) (c .either9 .ensures)
 
 returns-8 : tie.Need-returns-8
-returns-8 c = own-none _ _ _ (c .match .rest .0 .0 .0 .0 .0 .0 .1) (c .match .rest .0 .0 .0 .0 .0 .1) (c .match .rest .0 .0 .0 .0 .1) (c .match .rest .0 .0 .0 .1) (c .match .rest .0 .0 .1) (c .match .rest .0 .1) (c .match .rest .1)
+returns-8 c = own-none _ _ _ _ (c .match .rest .0 .0 .0 .0 .0 .0 .1) (c .match .rest .0 .0 .0 .0 .0 .1) (c .match .rest .0 .0 .0 .0 .1) (c .match .rest .0 .0 .0 .1) (c .match .rest .0 .0 .1) (c .match .rest .0 .1) (c .match .rest .1)
 
 pub own-refusal-spec : {M : Type 1} → statement M
 own-refusal-spec =

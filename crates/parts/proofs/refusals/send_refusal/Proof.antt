@@ -1,5 +1,5 @@
 use Rattle.parts.specs.Rows.{sendRefusal}
-use Rattle.rules.specs.Refusals.{given}
+use Rattle.rules.specs.Refusals.{table, given}
 use borrow.Author.Needs.{needs}
 use Rattle.parts.proofs.refusals.send_refusal.Statement.{statement}
 use Rattle.parts.proofs.refusals.send_refusal.Tie as tie
@@ -41,7 +41,7 @@ either-requires-9 : tie.Need-either-requires-9
 either-requires-9 c κs = search needs
 
 returns : tie.Need-returns
-unfolding sendRefusal given
+unfolding sendRefusal table given
 returns c = rw (c .either9 .ensures, c .before .either8 .ensures, c .before .before .either7 .ensures, c .before .before .before .before .before .before .before .before .either6 .ensures, c .before .before .before .before .before .before .before .before .before .either5 .ensures, c .before .before .before .before .before .before .before .before .before .before .either4 .ensures, c .before .before .before .before .before .before .before .before .before .before .before .before .either3 .ensures, c .before .before .before .before .before .before .before .before .before .before .before .before .before .either2 .ensures, c .before .before .before .before .before .before .before .before .before .before .before .before .before .before .either .ensures)
 
 pub send-refusal-spec : {M : Type 1} → statement M

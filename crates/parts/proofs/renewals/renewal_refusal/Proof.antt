@@ -1,5 +1,5 @@
-use Rattle.parts.specs.Nines.{renewalRefusal}
-use Rattle.rules.specs.Refusals.{given}
+use Rattle.parts.specs.Rows.{from, renewalRefusal}
+use Rattle.rules.specs.Refusals.{table, given}
 use borrow.Author.Needs.{needs}
 use Rattle.parts.proofs.renewals.renewal_refusal.Statement.{statement}
 use Rattle.parts.proofs.renewals.renewal_refusal.Tie as tie
@@ -14,7 +14,7 @@ either-requires-2 : tie.Need-either-requires-2
 either-requires-2 c κs = search needs
 
 returns : tie.Need-returns
-unfolding renewalRefusal given
+unfolding renewalRefusal from table given
 returns c = cc
 
 pub renewal-refusal-spec : {M : Type 1} → statement M

@@ -1,4 +1,4 @@
-use Rattle.parts.specs.Nines.{renewedOf}
+use Rattle.rules.specs.Effects.{afterRecreation}
 use borrow.Author.Needs.{needs}
 use Rattle.parts.proofs.renewals.renewed.Statement.{statement}
 use Rattle.parts.proofs.renewals.renewed.Tie as tie
@@ -13,11 +13,11 @@ clear-requires : tie.Need-clear-requires
 clear-requires c κs = search needs
 
 returns : tie.Need-returns
-unfolding renewedOf
+unfolding afterRecreation
 returns c = rw (c .settle .ensures, c .before .recreate .ensures, c .before .before .if1 .taken)
 
 returns-2 : tie.Need-returns-2
-unfolding renewedOf
+unfolding afterRecreation
 returns-2 c = rw (c .clear .ensures, c .before .if1 .left)
 
 pub renewed-spec : {M : Type 1} → statement M

@@ -2,14 +2,14 @@ use borrow.Author.Needs.{needs}
 use Rattle.rules.proofs.cells.Cell.give.Statement.{statement}
 use Rattle.rules.proofs.cells.Cell.give.Tie as tie
 
-sub-t6 : tie.Need-sub-t6
-sub-t6 c = search needs
+less-requires : tie.Need-less-requires
+less-requires c κs = search needs
 
 either-requires : tie.Need-either-requires
 either-requires c κs = search needs
 
 returns : tie.Need-returns
-returns c = rw (c .before .either .ensures)
+returns c = rw (c .before .either .ensures, c .before .before .less .ensures)
 
 pub give-spec : {M : Type 1} → statement M
-give-spec = tie.close (tie.spec sub-t6 either-requires returns)
+give-spec = tie.close (tie.spec less-requires either-requires returns)

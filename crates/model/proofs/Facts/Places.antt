@@ -1,0 +1,13 @@
+-- Where a part stands that there is. Assumes nothing.
+use Prim.Native.Nat.{ℕ, _+_, _*_, _<_}
+use mathlib.Core.Path.{_≡_}
+use borrow.Author.Tests.{lt-ltb}
+use Rattle.parts.specs.Places.{rowOf, placeOf}
+
+pub row-is : {line r : ℕ} → r ≡ rowOf line → line < 16 → r ≡ line
+unfolding rowOf
+row-is {line} h l = rw (h, lt-ltb line 16 l)
+
+pub place-is : {line node r : ℕ} → r ≡ placeOf line node → line < 16 → node < 9 → r ≡ line * 9 + node
+unfolding placeOf
+place-is {line} {node} h l n = rw (h, lt-ltb line 16 l, lt-ltb node 9 n)
