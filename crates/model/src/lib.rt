@@ -1,4 +1,4 @@
-mod runs;
+// The model of document 01: the functions that a user calls. They take every value that their types can hold.
 mod steps;
 
 pub use steps::batch;

@@ -1,57 +1,30 @@
 -- The step and the batch, from the run. Assumes nothing.
-use Prim.Native.Nat.{ℕ, zero, suc, _+_, _*_, _/_, _%_, _≤_, _<_}
-use mathlib.Core.Bool.{false}
-use mathlib.Core.Path.{_≡_, refl, sym, ap, _∙_}
+use Prim.Native.Nat.{ℕ, suc, _+_, _*_, _/_, _%_, _≤_, _<_}
+use mathlib.Core.Path.{_≡_, refl, ap, _∙_}
 use mathlib.Core.List.{List, [], _∷_}
 use native.Mathlib.Omega.{arith}
-use lib.ListN.{length, getD, drop, replicate}
+use lib.ListN.{length, getD}
 use lib.Seq.{sets, sets-eq}
-use borrow.Author.Tests.{eq-eqb, ne-eqb, lt-ltb, le-ltb}
+use borrow.Author.Tests.{eq-eqb, ne-eqb, lt-ltb, le-ltb, le-leb}
 use Rattle.model.specs.Types.{State, Event, Answer, Stepped, Batched}
-use Rattle.rules.specs.WellFormed.{wellFormed}
-use Rattle.rules.specs.Refusals.{refusal, table, given}
-use Rattle.rules.specs.Effects.{answer, answered, stepOf}
+use Rattle.rules.specs.Effects.{answer, stepOf}
 use Rattle.rules.specs.Runs.{runOf, answersOf, wordsOf, eventsTo, eventsOf, countOf, batchNumber, batchOf, batchAnswers}
 use Rattle.model.specs.Words.{batchedOf}
-use Rattle.model.proofs.Facts.Running.{refusals}
+use Rattle.running.specs.Words.{runnable}
+use Rattle.running.proofs.Facts.Ill.{events-long}
 
 -- the words of an event record
 abbrev pub wordsIn : Event → List ℕ
 wordsIn e = e .kind ∷ e .line ∷ e .node ∷ e .other ∷ e .amount ∷ e .owner ∷ e .full ∷ e .word ∷ []
 
 -- a run over one event is its step
-pub step-ran : (s : State) (e : Event) {t : State} {o : List ℕ} {a : Answer} → t ≡ runOf s (eventsTo 1 (wordsIn e))
-    → o ≡ sets (0 ∷ 0 ∷ 0 ∷ []) 0 (wordsOf (answersOf s (eventsTo 1 (wordsIn e)))) → a ≡ answer (getD o 0 0) (getD o 1 0) (getD o 2 0)
+pub step-ran : (s : State) (e : Event) {t : State} {o : List ℕ} {a : Answer} → t ≡ runOf s (eventsTo (runnable 8 3) (wordsIn e))
+    → o ≡ sets (0 ∷ 0 ∷ 0 ∷ []) 0 (wordsOf (answersOf s (eventsTo (runnable 8 3) (wordsIn e)))) → a ≡ answer (getD o 0 0) (getD o 1 0) (getD o 2 0)
     → _≡_ {A = Stepped} (record { state = t; answer = a }) (stepOf s e)
-unfolding runOf answersOf wordsOf eventsTo
+unfolding runOf answersOf wordsOf eventsTo runnable
 step-ran s e ht ho ha = rw (ht, ha, ho)
 
--- a state that is not well formed answers 1 to every event
-module _ (s : State) (ill : wellFormed s ≡ false) where
-  ill-number : (e : Event) → refusal s e ≡ 1
-  unfolding refusal table given
-  ill-number e = rw ill
-
-  ill-step : (e : Event) → stepOf s e ≡ answered s 1 0 64
-  unfolding stepOf
-  ill-step e = rw (ill-number e)
-
-  ill-run : (es : List Event) → runOf s es ≡ s
-  unfolding runOf
-  ill-run [] = refl
-  ill-run (e ∷ es) = rw (ill-step e) (ill-run es)
-
-  ill-answers : (es : List Event) → answersOf s es ≡ replicate (length es) (answer 1 0 64)
-  unfolding answersOf
-  ill-answers [] = refl
-  ill-answers (e ∷ es) = rw (ill-step e) (ap (λ rest. answer 1 0 64 ∷ rest) (ill-answers es))
-
 -- how long the lists are
-events-long : (k : ℕ) (ws : List ℕ) → length (eventsTo k ws) ≡ k
-unfolding eventsTo
-events-long zero ws = refl
-events-long (suc k) ws = ap suc (events-long k (drop 8 ws))
-
 answers-long : (s : State) (es : List Event) → length (answersOf s es) ≡ length es
 unfolding answersOf
 answers-long s [] = refl
@@ -61,14 +34,6 @@ words-long : (answers : List Answer) → length (wordsOf answers) ≡ 3 * length
 unfolding wordsOf
 words-long [] = refl
 words-long (a ∷ answers) = let h = words-long answers in omega arith
-
--- a run that answers 1 to each event is the run over such a state
-pub ill-ran : (s : State) → wellFormed s ≡ false → (n : ℕ) (ws o : List ℕ) {o′ : List ℕ} → o′ ≡ sets o 0 (refusals n)
-    → (s ≡ runOf s (eventsTo n ws)) × (o′ ≡ sets o 0 (wordsOf (answersOf s (eventsTo n ws))))
-ill-ran s ill n ws o h = (
-  sym (ill-run s ill (eventsTo n ws)),
-  h ∙ ap (λ answers. sets o 0 (wordsOf answers)) (sym (ill-answers s ill (eventsTo n ws) ∙ ap (λ n. replicate n (answer 1 0 64)) (events-long n ws))),
-)
 
 module _ (s : State) (ws o : List ℕ) where
   pub batch-20 : (length ws % 8 ≡ 0 → ⊥) → {r : Batched} → r ≡ batchedOf 20 s 0 → (r ≡ batchOf s ws o) × (o ≡ batchAnswers s ws o)
@@ -94,7 +59,11 @@ module _ (s : State) (ws o : List ℕ) where
           sets-eq (wordsOf (answersOf s (eventsOf ws))) o 0 (omega arith)
           ∙ (let z : 0 + length (wordsOf (answersOf s (eventsOf ws))) ≡ 3 * countOf ws = omega arith in rw (z, taken))
 
-      pub batch-ran : {t : State} {o′ : List ℕ} {r : Batched} → t ≡ runOf s (eventsTo (length ws / 8) ws) → o′ ≡ sets o 0 (wordsOf (answersOf s (eventsTo (length ws / 8) ws)))
+      all : runnable (length ws) (length o) ≡ length ws / 8
+      unfolding runnable
+      all = rw (le-leb (length ws / 8) (length o / 3) room)
+
+      pub batch-ran : {t : State} {o′ : List ℕ} {r : Batched} → t ≡ runOf s (eventsTo (runnable (length ws) (length o)) ws) → o′ ≡ sets o 0 (wordsOf (answersOf s (eventsTo (runnable (length ws) (length o)) ws)))
           → r ≡ batchedOf 0 t (length ws / 8) → (r ≡ batchOf s ws o) × (o′ ≡ batchAnswers s ws o)
       unfolding batchOf
-      batch-ran ht ho hr = (rw (hr, ht, taken), ho ∙ written)
+      batch-ran ht ho hr = (rw (hr, ht, all, taken), (rw all at ho) ∙ written)

@@ -15,8 +15,8 @@ batched-requires-2 c κs = search needs
 returns-2 : tie.Need-returns-2
 returns-2 c = batch-21 _ _ _ (c .before .before .if1 .left) (c .before .if2 .taken) (c .batched2 .ensures)
 
-run-any-requires : tie.Need-run-any-requires
-run-any-requires c κs = search needs
+run-requires : tie.Need-run-requires
+run-requires c κs = search needs
 
 batched-requires-3 : tie.Need-batched-requires-3
 batched-requires-3 c κs = search needs
@@ -25,7 +25,7 @@ same-length : tie.Need-same-length
 same-length c = search needs
 
 returns-3 : tie.Need-returns-3
-returns-3 c = batch-ran _ _ _ (c .before .before .before .before .before .before .if1 .left) (c .before .before .before .before .before .if2 .left) (c .before .before .before .run-any .ensures .0) (c .before .before .before .run-any .ensures .1) (c .batched3 .ensures)
+returns-3 c = batch-ran _ _ _ (c .before .before .before .before .before .before .if1 .left) (c .before .before .before .before .before .if2 .left) (c .before .before .before .run .ensures .0) (c .before .before .before .run .ensures .1) (c .batched3 .ensures)
 
 pub batch-spec : {M : Type 1} → statement M
 batch-spec =
@@ -35,7 +35,7 @@ batch-spec =
     returns
     batched-requires-2
     returns-2
-    run-any-requires
+    run-requires
     batched-requires-3
     same-length
     returns-3)

@@ -1,5 +1,5 @@
 use lib.ListN.{length-set}
-use Rattle.model.proofs.Facts.Running.{refuse-begins, refuse-more, refuse-ends}
+use Rattle.running.proofs.Facts.Running.{refuse-begins, refuse-more, refuse-ends}
 use Rattle.rules.specs.Runs.{wordsOf}
 use Rattle.rules.specs.Effects.{answer}
 use lib.Seq.{sets}
@@ -8,8 +8,8 @@ use mathlib.Core.Path.{_≡_, refl, _∙_, ap}
 use native.Mathlib.Omega.{arith}
 use Prim.Native.Nat.{_-_, _≤_, _*_}
 use borrow.Author.Needs.{needs}
-use Rattle.model.proofs.steps.refuse_all.Statement.{statement}
-use Rattle.model.proofs.steps.refuse_all.Tie as tie
+use Rattle.running.proofs.runs.refuse_all.Statement.{statement}
+use Rattle.running.proofs.runs.refuse_all.Tie as tie
 
 abbrev Inv-loop : tie.InvT-loop
 Inv-loop n answers₀ i₀ answers i = (i ≤ n) × (length answers ≡ length answers₀) × (sets answers (i * 3) (wordsOf (replicate (n - i) (answer 1 0 64))) ≡ sets answers₀ 0 (wordsOf (replicate n (answer 1 0 64))))

@@ -8,7 +8,7 @@ ghost use lib.Seq.{sets};
 ghost use Rattle.rules.specs.WellFormed.{wellFormed};
 ghost use Rattle.rules.specs.Effects.{answer as answerOf};
 ghost use Rattle.rules.specs.Runs.{eventOf, eventsTo, runOf, answersOf, wordsOf};
-ghost use Rattle.model.specs.Words.{answerSet};
+ghost use Rattle.running.specs.Words.{answerSet};
 use parts::changes::arrived;
 use parts::changes::reply;
 use parts::changes::sent_cell;
@@ -61,7 +61,7 @@ pub(crate) fn put(answers: &mut [u32], at: usize, number: u32, word: u32, slot: 
 }
 
 // The state after n events, and their answers.
-pub(crate) fn run(s: State, n: usize, events: &[u32], answers: &mut [u32]) -> State
+pub(crate) fn turns(s: State, n: usize, events: &[u32], answers: &mut [u32]) -> State
     requires { ⌜ (wellFormed s ≡ true) × (n * 8 ≤ length (now events)) × (n * 3 ≤ length (now answers)) ⌝ }
     ensures { λ r. ⌜ (r ≡ runOf s (eventsTo n (now (events .entry)))) × (now (answers .exit) ≡ sets (now (answers .entry)) 0 (wordsOf (answersOf s (eventsTo n (now (events .entry)))))) ⌝ }
 {

@@ -8,7 +8,7 @@ use lib.Dec.{eqb, ltb}
 use lib.ListN.{getD, set}
 use native.Mathlib.Decide.{ℕ-discrete}
 use borrow.Author.Tests.{ltb-true, ltb-false, eq-eqb, ne-eqb}
-use Rattle.model.specs.Types.{Cell, MessageKind, Free, Tokens, OwnershipAck, DeletionAck, State, Event}
+use Rattle.running.specs.Types.{Cell, MessageKind, Free, Tokens, OwnershipAck, DeletionAck, State, Event}
 use Rattle.rules.specs.Tools.{pick, firstTo, fillTo}
 use Rattle.rules.specs.States.{slotAt, isFree, bears}
 use Rattle.rules.specs.WellFormed.{wellFormed}

@@ -7,16 +7,16 @@ use native.Mathlib.Omega.{arith}
 use native.Mathlib.Numerals.{add-one, add-two}
 use lib.ListN.{length, take, drop, replicate, length-set}
 use lib.Seq.{sets, drop-drop, getD-take}
-use Rattle.model.specs.Types.{Sizes, State, Event, Answer}
+use Rattle.running.specs.Types.{Sizes, State, Event, Answer}
 use Rattle.rules.specs.WellFormed.{wellFormed}
 use Rattle.rules.specs.Effects.{answer, stepOf}
 use Rattle.rules.specs.Runs.{runOf, answersOf, wordsOf, eventOf, eventsTo}
 use Rattle.parts.specs.Tags.{Tagged}
-use Rattle.model.specs.Words.{answerSet}
+use Rattle.running.specs.Words.{answerSet}
 use Rattle.rules.proofs.Laws.Views.{Sized}
 use Rattle.rules.proofs.Keeps.Shapes.{step-keeps-sized, step-keeps-sizes}
 use Rattle.rules.proofs.Keeps.Steps.{step-keeps-well-formed}
-use Rattle.model.proofs.Facts.Turns.{Turned}
+use Rattle.running.proofs.Facts.Turns.{Turned}
 
 -- an event read from the part of the words that holds it
 pub event-part : (ws : List ℕ) (k : ℕ) → k ≡ 8 → eventOf (take k ws) ≡ eventOf ws

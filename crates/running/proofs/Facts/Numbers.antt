@@ -7,7 +7,7 @@ use mathlib.Core.List.{List, [], _∷_}
 use native.Mathlib.Omega.{arith}
 use lib.Dec.{eqb, leb, ltb}
 use borrow.Author.Tests.{ltb-true, ltb-false, leb-false, eqb-true, eqb-false, eq-eqb, ne-eqb}
-use Rattle.model.specs.Types.{Cell, Sizes, State, Event}
+use Rattle.running.specs.Types.{Cell, Sizes, State, Event}
 use Rattle.rules.specs.Tools.{pick}
 use Rattle.rules.specs.WellFormed.{wellFormed}
 use Rattle.rules.specs.Refusals.{Row, seen, given, table, tableOf, refusal, timeout, slotted, sending, delivering, cellOf, freeAt, lowestFree}

@@ -8,7 +8,7 @@ use native.Mathlib.Omega.{arith}
 use lib.Dec.{eqb}
 use lib.ListN.{length, getD, set, length-set}
 use borrow.Author.Tests.{eqb-true, lt-ltb}
-use Rattle.model.specs.Types.{Cell, MessageKind, Free, Tokens, OwnershipAck, DeletionAck, Message, Sizes, State, Event, Answer, Arrival, Stepped}
+use Rattle.running.specs.Types.{Cell, MessageKind, Free, Tokens, OwnershipAck, DeletionAck, Message, Sizes, State, Event, Answer, Arrival, Stepped}
 use Rattle.rules.specs.Cells.{zeroCell}
 use Rattle.rules.specs.States.{freeMessage, cellAt, slotAt, serialAt, withCell, withSlot}
 use Rattle.rules.specs.WellFormed.{wellFormed}
@@ -22,10 +22,10 @@ use Rattle.rules.proofs.Laws.Bools.{split}
 use Rattle.rules.proofs.Laws.Views.{Sized, same-cell}
 use Rattle.rules.proofs.Keeps.Numbers.{step-effect}
 use Rattle.rules.proofs.Keeps.Well.{well-sizes, well-address, well-fits}
-use Rattle.model.proofs.Facts.Numbers.{slot-number}
-use Rattle.model.proofs.Facts.Places.{row-is, place-is}
-use Rattle.model.proofs.Facts.Searches.{slot-refusal, slot-near, slot-busy}
-use Rattle.model.proofs.Facts.Turns.{Turned, turn-of, tag-set, refused-turn}
+use Rattle.running.proofs.Facts.Numbers.{slot-number}
+use Rattle.running.proofs.Facts.Places.{row-is, place-is}
+use Rattle.running.proofs.Facts.Searches.{slot-refusal, slot-near, slot-busy}
+use Rattle.running.proofs.Facts.Turns.{Turned, turn-of, tag-set, refused-turn}
 
 -- a reply has the tag of its kind
 reply-tag : (k : MessageKind) (q : ℕ) (m : Message) → tagOf k (m .line) q ≡ slotTag (replyOf k q m)

@@ -6,7 +6,7 @@ use mathlib.Core.Logic.{_≢_}
 use mathlib.Core.List.{List}
 use native.Mathlib.Omega.{arith}
 use lib.ListN.{length, getD, set}
-use Rattle.model.specs.Types.{Cell, Sizes, State, Event, Answer}
+use Rattle.running.specs.Types.{Cell, Sizes, State, Event, Answer}
 use Rattle.rules.specs.Tools.{pick}
 use Rattle.rules.specs.Cells.{zeroCell}
 use Rattle.rules.specs.States.{cellAt, withCell}
@@ -22,9 +22,9 @@ use Rattle.rules.proofs.Laws.Views.{same-cell}
 use Rattle.rules.proofs.Keeps.Accepted.{by-kind}
 use Rattle.rules.proofs.Keeps.Numbers.{step-effect}
 use Rattle.rules.proofs.Keeps.Well.{well-sizes}
-use Rattle.model.proofs.Facts.Numbers.{cell-number, cell-stops, cell-same, cell-within, no-timeout}
-use Rattle.model.proofs.Facts.Places.{place-is}
-use Rattle.model.proofs.Facts.Turns.{Turned, turn-of, refused-turn}
+use Rattle.running.proofs.Facts.Numbers.{cell-number, cell-stops, cell-same, cell-within, no-timeout}
+use Rattle.running.proofs.Facts.Places.{place-is}
+use Rattle.running.proofs.Facts.Turns.{Turned, turn-of, refused-turn}
 
 -- the cell that is loaded is the one that the event names, where there is one
 module _ (t : State) (w : wellFormed t ≡ true) (e : Event) {k : ℕ} (pk : k ≡ placeOf (e .line) (e .node)) where

@@ -8,7 +8,7 @@ use native.Mathlib.Decide.{ℕ-discrete}
 use lib.ListN.{length, set}
 use lib.Seq.{getD-set-same, getD-set-other}
 use borrow.Author.Tests.{ne-eqb}
-use Rattle.model.specs.Types.{Message, State, Event, Answer, Stepped}
+use Rattle.running.specs.Types.{Message, State, Event, Answer, Stepped}
 use Rattle.rules.specs.States.{freeMessage}
 use Rattle.rules.specs.Refusals.{refusal}
 use Rattle.rules.specs.Effects.{answer, stepOf}

@@ -1,8 +1,8 @@
 use lib.ListN.{length-set}
 use native.Mathlib.Omega.{arith}
 use borrow.Author.Needs.{needs}
-use Rattle.model.proofs.runs.put.Statement.{statement}
-use Rattle.model.proofs.runs.put.Tie as tie
+use Rattle.running.proofs.turns.put.Statement.{statement}
+use Rattle.running.proofs.turns.put.Tie as tie
 
 mul-answers : tie.Need-mul-answers
 mul-answers c = search needs

@@ -8,7 +8,7 @@ use native.Mathlib.Omega.{arith}
 use lib.Dec.{leb, ltb}
 use lib.ListN.{length, getD, set, length-set}
 use borrow.Author.Tests.{ltb-false, leb-false, eqb-true}
-use Rattle.model.specs.Types.{Cell, Tokens, Message, Sizes, State, Event, Answer}
+use Rattle.running.specs.Types.{Cell, Tokens, Message, Sizes, State, Event, Answer}
 use Rattle.rules.specs.Cells.{zeroCell}
 use Rattle.rules.specs.States.{serialAt, withCell, withSlot}
 use Rattle.rules.specs.WellFormed.{wellFormed}
@@ -24,11 +24,11 @@ use Rattle.rules.proofs.Laws.Views.{Sized}
 use Rattle.rules.proofs.Keeps.Accepted.{accepted, Sends, sends}
 use Rattle.rules.proofs.Keeps.Numbers.{step-effect}
 use Rattle.rules.proofs.Keeps.Well.{well-sizes, well-count}
-use Rattle.model.proofs.Facts.Numbers.{send-number}
-use Rattle.model.proofs.Facts.Places.{row-is}
-use Rattle.model.proofs.Facts.Searches.{free-found}
-use Rattle.model.proofs.Facts.Turns.{Turned, turn-of, tag-set, refused-turn}
-use Rattle.model.proofs.Facts.Cells.{loaded, named}
+use Rattle.running.proofs.Facts.Numbers.{send-number}
+use Rattle.running.proofs.Facts.Places.{row-is}
+use Rattle.running.proofs.Facts.Searches.{free-found}
+use Rattle.running.proofs.Facts.Turns.{Turned, turn-of, tag-set, refused-turn}
+use Rattle.running.proofs.Facts.Cells.{loaded, named}
 
 -- the rows that look at the sender's cell are asked only of a line and a node within the sizes
 send-same : (z : Sizes) (e : Event) (x y : Cell) (i : ℕ) → (e .line < z .lines → e .node ≤ z .caches → x ≡ y) → sendRefusal z e x i ≡ sendRefusal z e y i

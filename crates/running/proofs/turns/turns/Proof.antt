@@ -15,15 +15,15 @@ use Rattle.parts.specs.Nines.{nth}
 use Rattle.rules.proofs.Facts.Loops.{fill-none}
 use Rattle.rules.proofs.Facts.Tables.{table-more}
 use Rattle.parts.proofs.Facts.Renewals.{mapped-long}
-use Rattle.model.proofs.Facts.Searches.{slot-near}
-use Rattle.model.proofs.Facts.Slots.{slot-refused, slot-turn}
-use Rattle.model.proofs.Facts.Cells.{cell-refused, touch-turn}
-use Rattle.model.proofs.Facts.Sends.{slot-found, send-turn, send-refused}
-use Rattle.model.proofs.Facts.Timeouts.{renewal-refused, renewal-turn, fill-cells}
-use Rattle.model.proofs.Facts.Running.{Running, begins, goes-on, ends, event-part}
+use Rattle.running.proofs.Facts.Searches.{slot-near}
+use Rattle.running.proofs.Facts.Slots.{slot-refused, slot-turn}
+use Rattle.running.proofs.Facts.Cells.{cell-refused, touch-turn}
+use Rattle.running.proofs.Facts.Sends.{slot-found, send-turn, send-refused}
+use Rattle.running.proofs.Facts.Timeouts.{renewal-refused, renewal-turn, fill-cells}
+use Rattle.running.proofs.Facts.Running.{Running, begins, goes-on, ends, event-part}
 use borrow.Author.Needs.{needs}
-use Rattle.model.proofs.runs.run.Statement.{statement}
-use Rattle.model.proofs.runs.run.Tie as tie
+use Rattle.running.proofs.turns.turns.Statement.{statement}
+use Rattle.running.proofs.turns.turns.Tie as tie
 
 abbrev Inv-loop2 : tie.InvT-loop2
 Inv-loop2 n events answers t z total tags i at e out kind k l q number first nine₀ from₀ nine from =
@@ -120,7 +120,7 @@ fewer : (c : tie.After-decode Inv-loop2 μ-loop2 Inv-loop3 μ-loop3 Inv-loop μ-
 fewer c = omega (arith, c .before .before .loop-test .taken)
 
 tags-of-requires : tie.Need-tags-of-requires Inv-loop2 μ-loop2 Inv-loop3 μ-loop3 Inv-loop μ-loop
-tags-of-requires c κs = search needs
+tags-of-requires c κs = tt
 
 loop-holds : tie.Need-loop-holds Inv-loop2 μ-loop2 Inv-loop3 μ-loop3 Inv-loop μ-loop
 loop-holds c = let a = c .before .before .before in begins _ _ _ _ (record { cells = search (needs, mapped-long); pool = search (needs, mapped-long); serials = search (needs, mapped-long) }) (a .before .before .before .pre .0) (c .tags-of .ensures) (search (needs, mapped-long))
@@ -154,7 +154,7 @@ add-i c = search needs
 
 slot-refusal-requires :
     tie.Need-slot-refusal-requires Inv-loop2 μ-loop2 Inv-loop3 μ-loop3 Inv-loop μ-loop
-slot-refusal-requires c κs = search needs
+slot-refusal-requires c κs = tt
 
 put-requires : tie.Need-put-requires Inv-loop2 μ-loop2 Inv-loop3 μ-loop3 Inv-loop μ-loop
 put-requires c κs = search needs
@@ -188,13 +188,13 @@ cast-place-2 : tie.Need-cast-place-2 Inv-loop2 μ-loop2 Inv-loop3 μ-loop3 Inv-l
 cast-place-2 c = search needs
 
 place-requires : tie.Need-place-requires Inv-loop2 μ-loop2 Inv-loop3 μ-loop3 Inv-loop μ-loop
-place-requires c κs = search needs
+place-requires c κs = tt
 
 cast-row : tie.Need-cast-row Inv-loop2 μ-loop2 Inv-loop3 μ-loop3 Inv-loop μ-loop
 cast-row c = search needs
 
 row-requires : tie.Need-row-requires Inv-loop2 μ-loop2 Inv-loop3 μ-loop3 Inv-loop μ-loop
-row-requires c κs = search needs
+row-requires c κs = tt
 
 element-copy-out-q :
     tie.Need-element-copy-out-q Inv-loop2 μ-loop2 Inv-loop3 μ-loop3 Inv-loop μ-loop
@@ -208,7 +208,7 @@ element-copy-out-x :
 element-copy-out-x c = search needs
 
 arrived-requires : tie.Need-arrived-requires Inv-loop2 μ-loop2 Inv-loop3 μ-loop3 Inv-loop μ-loop
-arrived-requires c κs = search needs
+arrived-requires c κs = tt
 
 mul-cell : tie.Need-mul-cell Inv-loop2 μ-loop2 Inv-loop3 μ-loop3 Inv-loop μ-loop
 mul-cell c = search needs
@@ -218,7 +218,7 @@ element-set-from-cell :
 element-set-from-cell c = search needs
 
 reply-requires : tie.Need-reply-requires Inv-loop2 μ-loop2 Inv-loop3 μ-loop3 Inv-loop μ-loop
-reply-requires c κs = search needs
+reply-requires c κs = tt
 
 mul-t59 : tie.Need-mul-t59 Inv-loop2 μ-loop2 Inv-loop3 μ-loop3 Inv-loop μ-loop
 mul-t59 c = let m = message-of (c .before .before .before) in omega (arith, slot-near _ _ (m .before .slot-refusal .ensures) (m .if2 .left))
@@ -228,7 +228,7 @@ element-set-from-t :
 element-set-from-t c = let m = message-of (c .before .before .before) in slot-near _ _ (m .before .slot-refusal .ensures) (m .if2 .left)
 
 tag-requires : tie.Need-tag-requires Inv-loop2 μ-loop2 Inv-loop3 μ-loop3 Inv-loop μ-loop
-tag-requires c κs = search needs
+tag-requires c κs = tt
 
 mul-tags : tie.Need-mul-tags Inv-loop2 μ-loop2 Inv-loop3 μ-loop3 Inv-loop μ-loop
 mul-tags c = let m = message-of (arrival-of c) in omega (arith, slot-near _ _ (m .before .slot-refusal .ensures) (m .if2 .left))
@@ -255,10 +255,10 @@ loop-again-2 c =
     (c .before .before .put2 .ensures)
 
 place-requires-2 : tie.Need-place-requires-2 Inv-loop2 μ-loop2 Inv-loop3 μ-loop3 Inv-loop μ-loop
-place-requires-2 c κs = search needs
+place-requires-2 c κs = tt
 
 row-requires-2 : tie.Need-row-requires-2 Inv-loop2 μ-loop2 Inv-loop3 μ-loop3 Inv-loop μ-loop
-row-requires-2 c κs = search needs
+row-requires-2 c κs = tt
 
 mul-x-2 : tie.Need-mul-x-2 Inv-loop2 μ-loop2 Inv-loop3 μ-loop3 Inv-loop μ-loop
 mul-x-2 c = search needs
@@ -273,11 +273,11 @@ element-copy-out-q-2 c = search needs
 
 lowest-free-requires :
     tie.Need-lowest-free-requires Inv-loop2 μ-loop2 Inv-loop3 μ-loop3 Inv-loop μ-loop
-lowest-free-requires c κs = search needs
+lowest-free-requires c κs = tt
 
 send-refusal-requires :
     tie.Need-send-refusal-requires Inv-loop2 μ-loop2 Inv-loop3 μ-loop3 Inv-loop μ-loop
-send-refusal-requires c κs = search needs
+send-refusal-requires c κs = tt
 
 put-requires-3 : tie.Need-put-requires-3 Inv-loop2 μ-loop2 Inv-loop3 μ-loop3 Inv-loop μ-loop
 put-requires-3 c κs = search needs
@@ -298,7 +298,7 @@ loop-again-3 c =
 
 sent-cell-requires :
     tie.Need-sent-cell-requires Inv-loop2 μ-loop2 Inv-loop3 μ-loop3 Inv-loop μ-loop
-sent-cell-requires c κs = search needs
+sent-cell-requires c κs = tt
 
 mul-t92 : tie.Need-mul-t92 Inv-loop2 μ-loop2 Inv-loop3 μ-loop3 Inv-loop μ-loop
 mul-t92 c = search needs
@@ -309,7 +309,7 @@ element-set-from-t-2 c = search needs
 
 sent-message-requires :
     tie.Need-sent-message-requires Inv-loop2 μ-loop2 Inv-loop3 μ-loop3 Inv-loop μ-loop
-sent-message-requires c κs = search needs
+sent-message-requires c κs = tt
 
 mul-t92-2 : tie.Need-mul-t92-2 Inv-loop2 μ-loop2 Inv-loop3 μ-loop3 Inv-loop μ-loop
 mul-t92-2 c = omega (arith, found (c .before .before))
@@ -322,7 +322,7 @@ cast-tag : tie.Need-cast-tag Inv-loop2 μ-loop2 Inv-loop3 μ-loop3 Inv-loop μ-l
 cast-tag c = search needs
 
 tag-requires-2 : tie.Need-tag-requires-2 Inv-loop2 μ-loop2 Inv-loop3 μ-loop3 Inv-loop μ-loop
-tag-requires-2 c κs = search needs
+tag-requires-2 c κs = tt
 
 mul-tags-2 : tie.Need-mul-tags-2 Inv-loop2 μ-loop2 Inv-loop3 μ-loop3 Inv-loop μ-loop
 mul-tags-2 c = omega (arith, found (c .before .before .before))
@@ -355,7 +355,7 @@ loop-again-4 c =
 
 cell-refusal-requires :
     tie.Need-cell-refusal-requires Inv-loop2 μ-loop2 Inv-loop3 μ-loop3 Inv-loop μ-loop
-cell-refusal-requires c κs = search needs
+cell-refusal-requires c κs = tt
 
 put-requires-5 : tie.Need-put-requires-5 Inv-loop2 μ-loop2 Inv-loop3 μ-loop3 Inv-loop μ-loop
 put-requires-5 c κs = search needs
@@ -375,7 +375,7 @@ loop-again-5 c =
     (c .before .before .put5 .ensures)
 
 touch-requires : tie.Need-touch-requires Inv-loop2 μ-loop2 Inv-loop3 μ-loop3 Inv-loop μ-loop
-touch-requires c κs = search needs
+touch-requires c κs = tt
 
 mul-t110 : tie.Need-mul-t110 Inv-loop2 μ-loop2 Inv-loop3 μ-loop3 Inv-loop μ-loop
 mul-t110 c = search needs
@@ -385,7 +385,7 @@ element-set-from-t-4 :
 element-set-from-t-4 c = search needs
 
 either-requires : tie.Need-either-requires Inv-loop2 μ-loop2 Inv-loop3 μ-loop3 Inv-loop μ-loop
-either-requires c κs = search needs
+either-requires c κs = tt
 
 put-requires-6 : tie.Need-put-requires-6 Inv-loop2 μ-loop2 Inv-loop3 μ-loop3 Inv-loop μ-loop
 put-requires-6 c κs = room (event-of (cell-of (c .before .before .before .before .before)))
@@ -410,7 +410,7 @@ mul-first c = search needs
 
 empty-cell-requires :
     tie.Need-empty-cell-requires Inv-loop2 μ-loop2 Inv-loop3 μ-loop3 Inv-loop μ-loop
-empty-cell-requires c κs = search needs
+empty-cell-requires c κs = tt
 
 loop2-holds : tie.Need-loop2-holds Inv-loop2 μ-loop2 Inv-loop3 μ-loop3 Inv-loop μ-loop
 loop2-holds c = (omega arith, refl, λ j h. absurd (omega arith))
@@ -449,20 +449,20 @@ loop2-again c =
 
 next-serial-requires :
     tie.Need-next-serial-requires Inv-loop2 μ-loop2 Inv-loop3 μ-loop3 Inv-loop μ-loop
-next-serial-requires c κs = search needs
+next-serial-requires c κs = tt
 
 cast-tag-2 : tie.Need-cast-tag-2 Inv-loop2 μ-loop2 Inv-loop3 μ-loop3 Inv-loop μ-loop
 cast-tag-2 c = search needs
 
 tag-requires-3 : tie.Need-tag-requires-3 Inv-loop2 μ-loop2 Inv-loop3 μ-loop3 Inv-loop μ-loop
-tag-requires-3 c κs = search needs
+tag-requires-3 c κs = tt
 
 absent-requires : tie.Need-absent-requires Inv-loop2 μ-loop2 Inv-loop3 μ-loop3 Inv-loop μ-loop
-absent-requires c κs = search needs
+absent-requires c κs = tt
 
 renewal-refusal-requires :
     tie.Need-renewal-refusal-requires Inv-loop2 μ-loop2 Inv-loop3 μ-loop3 Inv-loop μ-loop
-renewal-refusal-requires c κs = search needs
+renewal-refusal-requires c κs = tt
 
 put-requires-7 : tie.Need-put-requires-7 Inv-loop2 μ-loop2 Inv-loop3 μ-loop3 Inv-loop μ-loop
 put-requires-7 c κs = room (event-of (cell-of (cause-of (line-of (c .before)))))
@@ -486,7 +486,7 @@ loop-again-7 c =
     (c .before .before .before .put7 .ensures)
 
 word-for-requires : tie.Need-word-for-requires Inv-loop2 μ-loop2 Inv-loop3 μ-loop3 Inv-loop μ-loop
-word-for-requires c κs = search needs
+word-for-requires c κs = tt
 
 cast-chosen : tie.Need-cast-chosen Inv-loop2 μ-loop2 Inv-loop3 μ-loop3 Inv-loop μ-loop
 cast-chosen c = search needs
@@ -501,7 +501,7 @@ array-copy-out-c : tie.Need-array-copy-out-c Inv-loop2 μ-loop2 Inv-loop3 μ-loo
 array-copy-out-c c = search needs
 
 renewed-requires : tie.Need-renewed-requires Inv-loop2 μ-loop2 Inv-loop3 μ-loop3 Inv-loop μ-loop
-renewed-requires c κs = search needs
+renewed-requires c κs = tt
 
 add-t135 : tie.Need-add-t135 Inv-loop2 μ-loop2 Inv-loop3 μ-loop3 Inv-loop μ-loop
 add-t135 c = omega (arith, row-below (c .before .before .before .before .before .before))
@@ -552,8 +552,8 @@ same-length c = c .before .loop .inv .long
 returns : tie.Need-returns Inv-loop2 μ-loop2 Inv-loop3 μ-loop3 Inv-loop μ-loop
 returns c = ends (c .before .loop .inv) (omega arith)
 
-pub run-spec : {M : Type 1} → statement M
-run-spec =
+pub turns-spec : {M : Type 1} → statement M
+turns-spec =
     tie.close
     (tie.spec
     Inv-loop2

@@ -8,7 +8,7 @@ use native.Mathlib.Omega.{arith}
 use lib.Dec.{eqb, ltb}
 use lib.ListN.{length, getD, set}
 use borrow.Author.Tests.{ltb-true}
-use Rattle.model.specs.Types.{Serial, Cell, Tokens, Sizes, State, Event, Answer}
+use Rattle.running.specs.Types.{Serial, Cell, Tokens, Sizes, State, Event, Answer}
 use Rattle.rules.specs.Tools.{fillTo}
 use Rattle.rules.specs.Cells.{zeroCell}
 use Rattle.rules.specs.States.{cellAt, serialAt, withCells, withSerial}
@@ -23,11 +23,11 @@ use Rattle.rules.proofs.Laws.Bools.{by-pick}
 use Rattle.rules.proofs.Keeps.Numbers.{step-effect, timeout-effect}
 use Rattle.rules.proofs.Keeps.Well.{well-sizes}
 use Rattle.rules.proofs.Facts.Loops.{fill-more}
-use Rattle.model.proofs.Facts.Numbers.{timeout-number, is-timeout}
-use Rattle.model.proofs.Facts.Places.{row-is}
-use Rattle.model.proofs.Facts.Searches.{fill-same, copyless-same, after-same, absent-is}
-use Rattle.model.proofs.Facts.Turns.{Turned, turn-of, refused-turn}
-use Rattle.model.proofs.Facts.Cells.{cause-is, within}
+use Rattle.running.proofs.Facts.Numbers.{timeout-number, is-timeout}
+use Rattle.running.proofs.Facts.Places.{row-is}
+use Rattle.running.proofs.Facts.Searches.{fill-same, copyless-same, after-same, absent-is}
+use Rattle.running.proofs.Facts.Turns.{Turned, turn-of, refused-turn}
+use Rattle.running.proofs.Facts.Cells.{cause-is, within}
 
 abbrev serialOf : ℕ → Serial
 serialOf q = record { 0 = q }

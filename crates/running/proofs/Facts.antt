@@ -1,0 +1,10 @@
+pub mod Numbers
+pub mod Places
+pub mod Searches
+pub mod Turns
+pub mod Slots
+pub mod Cells
+pub mod Sends
+pub mod Timeouts
+pub mod Running
+pub mod Ill
