@@ -13,5 +13,6 @@ pub mod SameWrites
 pub mod Writers
 pub mod Late
 pub mod Lost
+pub mod Losses
 pub mod Uses
 pub mod Coherence

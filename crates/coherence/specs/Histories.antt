@@ -4,12 +4,13 @@ use mathlib.Core.Path.{_≡_}
 use mathlib.Core.Bool.{Bool, true, false, not, _&&_, _||_}
 use mathlib.Core.List.{List, [], _∷_}
 use lib.Dec.{eqb}
+use lib.ListN.{getD, take}
 use Rattle.coherence.specs.Types.{State, Event, Answer}
 use Rattle.rules.specs.Tools.{pick}
 use Rattle.rules.specs.States.{slotAt}
 use Rattle.rules.specs.Fresh.{startOf}
 use Rattle.rules.specs.Refusals.{reading, writing, timeout, slotted, freeAt}
-use Rattle.rules.specs.Effects.{stepOf}
+use Rattle.rules.specs.Effects.{answer, stepOf}
 use Rattle.rules.specs.Runs.{runOf, answersOf}
 
 -- the start of c caches, l lines and n tokens is accepted
@@ -23,6 +24,14 @@ after c l n es = runOf (startOf c l n .state) es
 -- the answers to the events
 abbrev pub answers : ℕ → ℕ → ℕ → List Event → List Answer
 answers c l n es = answersOf (startOf c l n .state) es
+
+-- the state after that start and the first i of the events
+abbrev pub stateAt : ℕ → ℕ → ℕ → List Event → ℕ → State
+stateAt c l n es i = after c l n (take i es)
+
+-- the answer to event i, counted from 0
+abbrev pub answerAt : ℕ → ℕ → ℕ → List Event → ℕ → Answer
+answerAt c l n es i = getD (answers c l n es) i (answer 0 0 64)
 
 -- the event was an accepted write to the line
 abbrev pub wrote : Event → Answer → ℕ → Bool
