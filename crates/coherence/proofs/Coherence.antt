@@ -8,7 +8,7 @@ use Rattle.coherence.specs.Types.{Event}
 use Rattle.coherence.specs.Histories.{Started, after}
 use Rattle.coherence.specs.Demand3.{StaysWellFormed, ReadsLastWrite, WriterAlone, CopyRemains, Demand3}
 use Rattle.coherence.specs.Losses.{NewSerialUnborne, LateToken, SlowOrLost}
-use Rattle.coherence.specs.Events.{RefusedLeaves, UnusedUnseen}
+use Rattle.coherence.specs.Events.{RefusedLeavesState, UnusedWordsUnseen}
 use Rattle.rules.specs.Refusals.{refusal}
 use Rattle.rules.specs.Runs.{runOf}
 use Rattle.rules.proofs.Keeps.Well.{well-formed}
@@ -66,10 +66,10 @@ module _ (c l n : ℕ) (begun : Started c l n) (es : List Event) where
   slow-or-lost = let g = good c l n begun es in lost-after (after c l n es) (g .sized) (g .well)
 
 -- In every state, well formed or not, an event that is refused leaves the state as it came, and its answer has word 0 and slot 64.
-pub refused-leaves : RefusedLeaves
-refused-leaves s e d = rw (step-refused s e (ne-eqb (refusal s e) 0 (λ z. d (step-number s e ∙ z)))) (refl, refl, refl)
+pub refused-leaves-state : RefusedLeavesState
+refused-leaves-state s e d = rw (step-refused s e (ne-eqb (refusal s e) 0 (λ z. d (step-number s e ∙ z)))) (refl, refl, refl)
 
 -- In every state, well formed or not, words that a kind does not use are not looked at.
 -- So two events that differ in such words alone have the same answer and lead to the same state.
-pub unused-unseen : UnusedUnseen
-unused-unseen = same-used
+pub unused-words-unseen : UnusedWordsUnseen
+unused-words-unseen = same-used

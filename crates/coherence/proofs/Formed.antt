@@ -11,7 +11,7 @@ use lib.ListN.{getD}
 use Rattle.coherence.specs.Types.{State, Event}
 use Rattle.rules.specs.WellFormed.{wellFormed}
 use Rattle.rules.specs.Refusals.{Row, row, table, given, refusal}
-use Rattle.rules.specs.Effects.{answer, stepOf}
+use Rattle.rules.specs.Effects.{answer}
 use Rattle.rules.specs.Runs.{answersOf}
 use Rattle.rules.proofs.Laws.Bools.{by-pick, and-both}
 use Rattle.rules.proofs.Laws.Views.{Sized}

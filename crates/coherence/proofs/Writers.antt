@@ -5,7 +5,7 @@ use mathlib.Core.Bool.{true}
 use native.Mathlib.Omega.{arith}
 use Rattle.coherence.specs.Types.{State}
 use Rattle.coherence.specs.Demand3.{OthersEmpty, NoneInFlight}
-use Rattle.rules.specs.States.{cellAt, slotAt, serialAt, bears}
+use Rattle.rules.specs.States.{cellAt, slotAt, serialAt}
 use Rattle.rules.specs.WellFormed.{inCells, inMessages, held, borne, tokensOf}
 use Rattle.rules.specs.Fresh.{sizes}
 use Rattle.rules.specs.Cells.{ableToWrite}

@@ -10,8 +10,8 @@ use Rattle.rules.specs.Refusals.{reading, writing, sending, slotted, wantingRea
 use Rattle.rules.specs.Effects.{stepOf}
 
 -- a refused event leaves the state as it came, and is answered with word 0 and slot 64
-abbrev pub RefusedLeaves : Type 0
-RefusedLeaves =
+abbrev pub RefusedLeavesState : Type 0
+RefusedLeavesState =
     (s : State) (e : Event)
     → stepOf s e .answer .number ≢ 0
     → (stepOf s e .state ≡ s) × (stepOf s e .answer .word ≡ 0) × (stepOf s e .answer .slot ≡ 64)
@@ -27,8 +27,8 @@ usedBy k e =
     (pick (timeout k) (e .line ∷ e .node ∷ []) [])))))
 
 -- words that a kind does not use are not looked at: two events of one kind that agree in the words it uses step alike
-abbrev pub UnusedUnseen : Type 0
-UnusedUnseen =
+abbrev pub UnusedWordsUnseen : Type 0
+UnusedWordsUnseen =
     (s : State) (e other : Event)
     → e .kind ≡ other .kind
     → usedBy (e .kind) e ≡ usedBy (other .kind) other
