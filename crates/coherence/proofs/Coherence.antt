@@ -15,7 +15,7 @@ use Rattle.rules.proofs.Keeps.Well.{well-formed}
 use Rattle.rules.proofs.Keeps.Numbers.{step-number, step-refused}
 use Rattle.coherence.proofs.Runs.{good, has-copies, never-18}
 use Rattle.coherence.proofs.Formed.{run-not-1}
-use Rattle.coherence.proofs.SameWrites.{read-here}
+use Rattle.coherence.proofs.LastWrites.{read-at}
 use Rattle.coherence.proofs.Writers.{writer}
 use Rattle.coherence.proofs.Losses.{unborne-after, late-after, lost-after}
 use Rattle.coherence.proofs.Uses.{same-used}
@@ -33,7 +33,7 @@ module _ (c l n : ℕ) (begun : Started c l n) (es : List Event) where
   -- Every accepted read answers the word of the last accepted write to its line earlier in the list, or 0 if there is none.
   -- The answers are those of the run itself, so a test bench can replay a list and compare.
   pub reads-last-write : ReadsLastWrite c l n es
-  reads-last-write before e rest is = rw is (read-here c l n begun before e rest)
+  reads-last-write before e rest is = rw is (read-at c l n begun before e rest)
 
   -- Whenever a node is able to write a line, every other node, the memory included, holds no token of that line, and no message that bears the line's current serial has one.
   -- So at that moment no other node is able to read the line.

@@ -9,7 +9,6 @@ pub mod Copies
 pub mod Runs
 pub mod Formed
 pub mod LastWrites
-pub mod SameWrites
 pub mod Writers
 pub mod Late
 pub mod Lost
