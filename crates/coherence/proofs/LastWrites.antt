@@ -7,11 +7,10 @@ use native.Mathlib.Omega.{arith}
 use borrow.Author.Tests.{eqb-true}
 use lib.ListN.{length, getD}
 use Rattle.coherence.specs.Types.{State, Event, Answer, Stepped}
-use Rattle.coherence.specs.Histories.{after, answers}
+use Rattle.coherence.specs.Histories.{after, answers, lastWrite}
 use Rattle.rules.specs.Fresh.{startOf}
 use Rattle.rules.specs.Refusals.{reading, cellOf, tableOf, refusal}
 use Rattle.rules.specs.Effects.{answer, readOf, effect, stepOf}
-use Rattle.rules.specs.Runs.{lastWrite}
 use Rattle.rules.proofs.Keeps.Cells.{able-read}
 use Rattle.rules.proofs.Keeps.Well.{Well, place}
 use Rattle.rules.proofs.Laws.Rows.{Clear}

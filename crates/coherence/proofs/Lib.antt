@@ -7,7 +7,11 @@ pub mod Recreations
 pub mod Steps
 pub mod Copies
 pub mod Runs
+pub mod Formed
 pub mod LastWrites
+pub mod Writers
 pub mod Late
 pub mod Lost
+pub mod Losses
+pub mod Uses
 pub mod Coherence

@@ -7,14 +7,14 @@ use mathlib.Core.List.{List, [], _∷_, _++_}
 use native.Mathlib.Omega.{arith}
 use lib.ListN.{length, getD}
 use Rattle.coherence.specs.Types.{State, Event, Answer}
-use Rattle.coherence.specs.Histories.{after, answers}
+use Rattle.coherence.specs.Histories.{after, answers, wrote, lastWriteAfter, lastWrite}
 use Rattle.rules.specs.Tools.{pick}
 use Rattle.rules.specs.States.{cellAt}
 use Rattle.rules.specs.WellFormed.{sizesFine}
 use Rattle.rules.specs.Fresh.{sizes, fresh, startOf}
 use Rattle.rules.specs.Refusals.{copyless}
 use Rattle.rules.specs.Effects.{answer, stepOf}
-use Rattle.rules.specs.Runs.{runOf, answersOf, wrote, lastWriteAfter, lastWrite}
+use Rattle.rules.specs.Runs.{runOf, answersOf}
 use Rattle.rules.proofs.Laws.Bools.{split}
 use Rattle.rules.proofs.Laws.Views.{Sized}
 use Rattle.rules.proofs.Keeps.Well.{Well}

@@ -10,7 +10,7 @@ use Rattle.rules.specs.Tools.{pick}
 use Rattle.rules.specs.Cells.{withWant}
 use Rattle.rules.specs.Refusals.{slotted, writing, cellOf, table, refusal}
 use Rattle.rules.specs.Effects.{readOf, wantOf, effect, stepOf}
-use Rattle.rules.specs.Runs.{wrote}
+use Rattle.coherence.specs.Histories.{wrote}
 use Rattle.rules.proofs.Laws.Bools.{split}
 use Rattle.rules.proofs.Laws.Views.{Sized}
 use Rattle.rules.proofs.Laws.Bears.{alike}

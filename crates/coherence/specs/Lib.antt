@@ -1,2 +1,5 @@
 pub mod Types
 pub mod Histories
+pub mod Demand3
+pub mod Losses
+pub mod Events

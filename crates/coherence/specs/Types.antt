@@ -1,4 +1,4 @@
--- The types of `model`, under short names. Assumes nothing.
+-- The types of `rules`, under short names. Assumes nothing.
 pub use Rattle.rules.specs.declared.cells.Want.{Want}
 pub use Rattle.rules.specs.declared.cells.Want.the-variants.{Read, Write}
 pub use Rattle.rules.specs.declared.cells.Cell.{Cell}
