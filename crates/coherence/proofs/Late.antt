@@ -7,22 +7,23 @@ use native.Mathlib.Omega.{arith}
 use native.Mathlib.Decide.{ℕ-discrete}
 use borrow.Author.Tests.{eqb-true, eqb-false, le-ltb, not-true}
 use lib.Dec.{eqb}
-use Rattle.coherence.specs.Types.{Read, Write, Cell, Message, State, Event, Stepped}
+use Rattle.coherence.specs.Types.{Cell, Message, State, Event, Stepped}
 use Rattle.coherence.specs.Histories.{Overtaken, emptiedBy, stays}
 use Rattle.rules.specs.States.{slotAt, serialAt, isFree, bears, withCell}
 use Rattle.rules.specs.Cells.{withWant, written}
-use Rattle.rules.specs.Refusals.{slotted, delivering, freeAt, cellOf, table, given, refusal}
-use Rattle.rules.specs.Effects.{emptied, readOf, writeOf, sendOf, wantOf, deliverOf, recreateOf, effect, stepOf}
+use Rattle.rules.specs.Refusals.{slotted, delivering, freeAt, cellOf, table, tableOf, given, refusal}
+use Rattle.rules.specs.Effects.{emptied, writeOf, sendOf, wantOf, delivered, replyOf, deliverOf, recreateOf, effect, stepOf}
 use Rattle.rules.specs.Runs.{runOf, answersOf}
 use Rattle.rules.proofs.Laws.Bools.{clash, split, and-both}
-use Rattle.rules.proofs.Laws.Views.{Sized, kept-slot}
+use Rattle.rules.proofs.Laws.Views.{Sized, same-cell, kept-slot}
 use Rattle.rules.proofs.Laws.Bears.{bears-not}
 use Rattle.rules.proofs.Keeps.Well.{Well, well-formed}
-use Rattle.rules.proofs.Keeps.Accepted.{Clear, accepted, by-kind, kind-small, Named, Sends, Timeout, names, times, slots, sends}
+use Rattle.rules.proofs.Keeps.Accepted.{Named, Sends, Timeout}
+use Rattle.rules.proofs.Keeps.Deeds.{Deed, quiet, write, want, send, land, renew, step-deed}
 use Rattle.rules.proofs.Keeps.Numbers.{step-number, step-effect, step-refused, recreates}
 use Rattle.rules.proofs.Keeps.Changes.{cell-change}
 use Rattle.rules.proofs.Keeps.Sends.{send-change}
-use Rattle.rules.proofs.Keeps.Arrivals.{Landed, empties, delivers, landed-change}
+use Rattle.rules.proofs.Keeps.Arrivals.{Landed, landed-change}
 use Rattle.rules.proofs.Keeps.Renewals.{change, sole}
 use Rattle.rules.proofs.Keeps.Shapes.{step-keeps-sized}
 use Rattle.rules.proofs.Keeps.Steps.{step-keeps-well}
@@ -72,11 +73,9 @@ module _ {s : State} (z : Sized s) (w : Well s) (i : ℕ) (m : Message) (h : Lat
       same-late (ch .other-slot i (λ q. clash (n .free) (subst (λ j. freeAt s j ≡ false) q used))) (ch .serial (m .line))
 
   -- another slot is emptied
-  slot-late : (k : ℕ) → Clear (table s e k) → slotted k ≡ true → eqb (e .amount) i ≡ false → {r : Stepped}
-      → Landed s (e .amount) r → Late (r .state) i m
-  slot-late k c q d l =
-      let n = slots s e k q c in
-      let ch = landed-change z w (e .amount) (n .0) (n .1) (l .cell) (l .reply) in
+  slot-late : e .amount < 64 → freeAt s (e .amount) ≡ false → eqb (e .amount) i ≡ false → {r : Stepped} → Landed s (e .amount) r → Late (r .state) i m
+  slot-late hi f d l =
+      let ch = landed-change z w (e .amount) hi f (l .cell) (l .reply) in
       subst (λ t. Late t i m) (l .state)
       (same-late (ch .other-slot i (λ y. eqb-false (e .amount) i d (sym y))) (ch .serial (m .line)))
 
@@ -88,33 +87,20 @@ module _ {s : State} (z : Sized s) (w : Well s) (i : ℕ) (m : Message) (h : Lat
         | no d ↦ same-late (ch .slot i) (ch .other-serial (m .line) d)
       ]
 
-  effect-late : (k : ℕ) → Clear (table s e k) → slotted k && eqb (e .amount) i ≡ false → Late (effect s e k .state) i m
-  unfolding effect readOf writeOf wantOf
-  effect-late k c d =
-      by-kind (λ k. Clear (table s e k) → slotted k && eqb (e .amount) i ≡ false → Late (effect s e k .state) i m)
-      (λ c d. h)
-      (λ c d. cell-late (written (e .word) (cellOf s e)) (names s e 1 refl c))
-      (λ c d. send-late (sends s e c))
-      (λ c d. slot-late 3 c refl d (delivers s e))
-      (λ c d. slot-late 4 c refl d (empties s (e .amount)))
-      (λ c d. cell-late (withWant Read (cellOf s e)) (names s e 5 refl c))
-      (λ c d. cell-late (withWant Write (cellOf s e)) (names s e 6 refl c))
-      (λ c d. recreate-late (times s e 7 refl refl c))
-      (λ c d. recreate-late (times s e 8 refl refl c))
-      (λ c d. recreate-late (times s e 9 refl refl c))
-      k
-      (kind-small s e k c)
-      c
-      d
+  deed-late : {k : ℕ} {t : State} → Deed s e k t → slotted k && eqb (e .amount) i ≡ false → Late t i m
+  unfolding writeOf wantOf
+  deed-late (quiet _) d = h
+  deed-late (write _ c _) d = cell-late (written (e .word) (cellOf s e)) (c .named)
+  deed-late (want _ x c) d = cell-late (withWant x (cellOf s e)) (c .named)
+  deed-late (send _ a) d = send-late a
+  deed-late (land _ q hi f l) d = slot-late hi f (rw q at d) l
+  deed-late (renew _ t) d = recreate-late t
 
   step-late : emptiedBy i e (stepOf s e .answer) ≡ false → Late (stepOf s e .state) i m
   step-late d =
       let r : eqb (refusal s e) 0 && (slotted (e .kind) && eqb (e .amount) i) ≡ false =
       subst (λ a. eqb a 0 && (slotted (e .kind) && eqb (e .amount) i) ≡ false) (step-number s e) d in
-      split (eqb (refusal s e) 0)
-      (λ t.
-      let a = eqb-true (refusal s e) 0 t in
-      subst (λ x. Late (x .state) i m) (sym (step-effect s e a)) (effect-late (e .kind) (accepted s e a) (rw t at r)))
+      split (eqb (refusal s e) 0) (λ t. deed-late (step-deed s e (eqb-true (refusal s e) 0 t)) (rw t at r))
       (λ f. subst (λ x. Late (x .state) i m) (sym (step-refused s e f)) h)
 
 -- it stays late as long as it is in its slot
@@ -127,16 +113,19 @@ run-late {s} z w i m h (e ∷ es) g =
     run-late (step-keeps-sized s z e) (step-keeps-well z w e) i m (step-late z w i m h e (not-true _ (b .0))) es (b .1)
 
 -- the delivery of a late message empties its slot and does nothing else
-late-accepted : (s : State) (e : Event) → Well s → e .amount < 64 → freeAt s (e .amount) ≡ false → given (table s e 3) ≡ 0
+late-accepted : (s : State) (e : Event) → Well s → e .amount < 64 → freeAt s (e .amount) ≡ false → given (tableOf s e 3) ≡ 0
 unfolding given table
 late-accepted s e w h f = rw (well-formed w, le-ltb 63 (e .amount) (omega arith), f)
 
 pub late-delivery : {s : State} → Well s → (e : Event) (m : Message) → Late s (e .amount) m
     → delivering (e .kind) ≡ true → stepOf s e ≡ emptied s (e .amount)
-unfolding refusal effect deliverOf
+unfolding refusal effect deliverOf delivered replyOf
 late-delivery {s} w e m h k =
     let k3 = eqb-true (e .kind) 3 k in
+    let it = slotAt s (e .amount) in
     let f : freeAt s (e .amount) ≡ false = ap (λ (x : Message). isFree (x .kind)) (h .is) ∙ h .there in
-    let q : eqb (slotAt s (e .amount) .serial .0) (serialAt s (slotAt s (e .amount) .line)) ≡ false =
+    let q : eqb (it .serial .0) (serialAt s (it .line)) ≡ false =
     subst (λ (x : Message). eqb (x .serial .0) (serialAt s (x .line)) ≡ false) (sym (h .is)) (h .stale) in
-    step-effect s e (ap (λ j. given (table s e j)) k3 ∙ late-accepted s e w (h .slot) f) ∙ ap (effect s e) k3 ∙ rw q
+    step-effect s e (ap (λ j. given (tableOf s e j)) k3 ∙ late-accepted s e w (h .slot) f)
+    ∙ ap (effect s e) k3
+    ∙ rw q (ap (λ t. emptied t (e .amount)) (same-cell s (it .line) (it .destination)))

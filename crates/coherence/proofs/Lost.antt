@@ -10,7 +10,7 @@ use Rattle.coherence.specs.Types.{Message, State, Event}
 use Rattle.rules.specs.Tools.{pick}
 use Rattle.rules.specs.States.{cellAt, serialAt, withCell, withSlot}
 use Rattle.rules.specs.WellFormed.{wellFormed}
-use Rattle.rules.specs.Refusals.{reading, writing, dropping, table, given, refusal}
+use Rattle.rules.specs.Refusals.{reading, writing, dropping, table, tableOf, given, refusal}
 use Rattle.rules.specs.Effects.{answer, emptied, readOf, writeOf, effect, stepOf}
 use Rattle.rules.proofs.Laws.Bools.{split, and-left, and-right}
 use Rattle.rules.proofs.Laws.Views.{Sized}
@@ -56,31 +56,31 @@ slot-sized s i m z = record { cells = z .cells; pool = simp length-set (z .pool)
 
 module _ (s : State) (i : ℕ) (m : Message) (w : wellFormed s ≡ true) (v : wellFormed (withSlot s i m) ≡ true) (e : Event) where
   -- two states that differ in a slot answer a read and a write alike
-  alike-at : (k : ℕ) → e .kind ≡ k → given (table (withSlot s i m) e k) ≡ given (table s e k)
+  alike-at : (k : ℕ) → e .kind ≡ k → given (tableOf (withSlot s i m) e k) ≡ given (tableOf s e k)
       → effect (withSlot s i m) e k .answer ≡ effect s e k .answer
       → stepOf (withSlot s i m) e .answer ≡ stepOf s e .answer
   unfolding refusal
   alike-at k h p q =
-      let r : refusal (withSlot s i m) e ≡ refusal s e = ap (λ j. given (table (withSlot s i m) e j)) h ∙ p ∙ ap (λ j. given (table s e j)) (sym h) in
+      let r : refusal (withSlot s i m) e ≡ refusal s e = ap (λ j. given (tableOf (withSlot s i m) e j)) h ∙ p ∙ ap (λ j. given (tableOf s e j)) (sym h) in
       let t : effect (withSlot s i m) e (e .kind) .answer ≡ effect s e (e .kind) .answer = ap (λ j. effect (withSlot s i m) e j .answer) h ∙ q ∙ ap (λ j. effect s e j .answer) (sym h) in
       answer-by (withSlot s i m) e ∙ ap₂ (λ a b. pick (eqb a 0) b (answer a 0 64)) r t ∙ sym (answer-by s e)
 
   -- .. and go on to two that differ in that slot
-  state-at : (k : ℕ) → e .kind ≡ k → given (table (withSlot s i m) e k) ≡ given (table s e k)
+  state-at : (k : ℕ) → e .kind ≡ k → given (tableOf (withSlot s i m) e k) ≡ given (tableOf s e k)
       → effect (withSlot s i m) e k .state ≡ withSlot (effect s e k .state) i m
       → stepOf (withSlot s i m) e .state ≡ withSlot (stepOf s e .state) i m
   unfolding refusal
   state-at k h p q =
-      let r : refusal (withSlot s i m) e ≡ refusal s e = ap (λ j. given (table (withSlot s i m) e j)) h ∙ p ∙ ap (λ j. given (table s e j)) (sym h) in
+      let r : refusal (withSlot s i m) e ≡ refusal s e = ap (λ j. given (tableOf (withSlot s i m) e j)) h ∙ p ∙ ap (λ j. given (tableOf s e j)) (sym h) in
       let t : effect (withSlot s i m) e (e .kind) .state ≡ withSlot (effect s e (e .kind) .state) i m = ap (λ j. effect (withSlot s i m) e j .state) h ∙ q ∙ ap (λ j. withSlot (effect s e j .state) i m) (sym h) in
       state-by (withSlot s i m) e ∙ ap₂ (λ a u. pick (eqb a 0) u (withSlot s i m)) r t ∙ slot-picked (eqb (refusal s e) 0) (effect s e (e .kind) .state) s i m
       ∙ ap (λ u. withSlot u i m) (sym (state-by s e))
 
-  given-read : given (table (withSlot s i m) e 0) ≡ given (table s e 0)
+  given-read : given (tableOf (withSlot s i m) e 0) ≡ given (tableOf s e 0)
   unfolding table withSlot cellAt
   given-read = rw (w, v)
 
-  given-write : given (table (withSlot s i m) e 1) ≡ given (table s e 1)
+  given-write : given (tableOf (withSlot s i m) e 1) ≡ given (tableOf s e 1)
   unfolding table withSlot cellAt
   given-write = rw (w, v)
 

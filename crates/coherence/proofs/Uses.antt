@@ -10,7 +10,7 @@ use Rattle.coherence.specs.Types.{State, Event, Stepped}
 use Rattle.coherence.specs.Events.{usedBy, UnusedWordsUnseen}
 use Rattle.rules.specs.Tools.{pick}
 use Rattle.rules.specs.WellFormed.{wellFormed}
-use Rattle.rules.specs.Refusals.{sending, slotted, Row, row, table, given, refusal}
+use Rattle.rules.specs.Refusals.{sending, slotted, Row, row, table, tableOf, given, refusal}
 use Rattle.rules.specs.Effects.{answered, readOf, writeOf, sentCell, sendOf, deliverOf, wantOf, recreateOf, effect, stepOf}
 use Rattle.rules.proofs.Laws.Bools.{split}
 use Rattle.rules.proofs.Keeps.Accepted.{by-kind}
@@ -29,7 +29,7 @@ does s e k x = pick (eqb x 0) (effect s e k) (answered s x 0 64)
 
 -- the same with the number of the table
 abbrev doesAt : State → Event → ℕ → Stepped
-doesAt s e k = does s e k (given (table s e k))
+doesAt s e k = does s e k (given (tableOf s e k))
 
 -- the first two rows decide, if the second applies
 second : (a b : Bool) (rs : List Row) → b ≡ true → given (row 1 a ∷ row 2 b ∷ rs) ≡ pick a 1 2
@@ -43,7 +43,7 @@ module _ (s : State) (e : Event) where
   small k h = by-kind (λ k. doesAt s e k ≡ doesAt s (blank k (usedBy k e)) k) refl refl refl refl refl refl refl refl refl refl k h
 
   -- a kind above 9 is refused with 1 or 2, whatever the words are
-  above : (k : ℕ) → ltb 9 k ≡ true → given (table s e k) ≡ pick (not (wellFormed s)) 1 2
+  above : (k : ℕ) → ltb 9 k ≡ true → given (tableOf s e k) ≡ pick (not (wellFormed s)) 1 2
   unfolding table
   above k h = second (not (wellFormed s)) _ _ (rw h)
 

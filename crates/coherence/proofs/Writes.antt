@@ -2,6 +2,7 @@
 use Prim.Native.Nat.{ℕ, _+_, _≤_, _<_}
 use mathlib.Core.Path.{_≡_, refl, sym, ap, subst, _∙_}
 use mathlib.Core.Logic.{_≢_}
+use mathlib.Core.Bool.{true}
 use native.Mathlib.Omega.{arith}
 use native.Mathlib.Decide.{ℕ-discrete}
 use borrow.Author.Tests.{eq-eqb, ne-eqb}
@@ -10,8 +11,8 @@ use Rattle.coherence.specs.Types.{State, Event}
 use Rattle.rules.specs.Tools.{pick}
 use Rattle.rules.specs.States.{cellAt, slotAt, serialAt, withCell}
 use Rattle.rules.specs.WellFormed.{counted, inCells, inMessages, held, borne, tokensOf}
-use Rattle.rules.specs.Cells.{written}
-use Rattle.rules.specs.Refusals.{cellOf, tableOf}
+use Rattle.rules.specs.Cells.{ableToWrite, written}
+use Rattle.rules.specs.Refusals.{cellOf}
 use Rattle.rules.specs.Effects.{writeOf}
 use Rattle.rules.proofs.Laws.Bools.{bit-of}
 use Rattle.rules.proofs.Laws.Sums.{sum-le, sum-two}
@@ -20,8 +21,7 @@ use Rattle.rules.proofs.Laws.Bears.{alike, counts, counted-mono, cell-share, me
 use Rattle.rules.proofs.Keeps.Cells.{Able, able-write}
 use Rattle.rules.proofs.Keeps.Messages.{tokened}
 use Rattle.rules.proofs.Keeps.Well.{Well, place, marks, slot-sort}
-use Rattle.rules.proofs.Laws.Rows.{Clear}
-use Rattle.rules.proofs.Keeps.Accepted.{caches, writes}
+use Rattle.rules.proofs.Keeps.Accepted.{Cached}
 use Rattle.rules.proofs.Keeps.Changes.{cell-change}
 use Rattle.coherence.proofs.Invariant.{passed, Has, Carries, Kept, Held}
 use Rattle.coherence.proofs.Changes.{kept-other, moved}
@@ -85,17 +85,17 @@ module _ {s : State} (w : Well s) (l n : ℕ) (hl : l < s .sizes .lines) (hn : n
       }
 
 -- every line is kept, the line written with the new word
-pub write-held : {s : State} (z : Sized s) (w : Well s) (e : Event) → Clear (tableOf s e 1) → (W : ℕ → ℕ) → Held s W
+pub write-held : {s : State} (z : Sized s) (w : Well s) (e : Event) → Cached s e → ableToWrite (s .sizes .total .0) (cellOf s e) ≡ true → (W : ℕ → ℕ) → Held s W
     → Held (writeOf s e .state) (λ j. pick (eqb (e .line) j) (e .word) (W j))
 unfolding writeOf Held
-write-held {s} z w e c W h k hk =
-    let n = caches s e 1 refl refl c .named in
+write-held {s} z w e c a W h k hk =
+    let n = c .named in
     let x = written (e .word) (cellOf s e) in
     let ch = cell-change z w (n .line) (n .node) x in
     elim (ℕ-discrete k (e .line)) [
       | yes y ↦ subst (λ j. Kept (withCell s (e .line) (e .node) x) j (pick (eqb (e .line) j) (e .word) (W j))) (sym y)
           (rw (eq-eqb (e .line) (e .line) refl)
-          (write-kept w (e .line) (e .node) (n .line) (n .node) (able-write _ _ (writes s e c)) z (W (e .line)) (h (e .line) (n .line)) (e .word)))
+          (write-kept w (e .line) (e .node) (n .line) (n .node) (able-write _ _ a) z (W (e .line)) (h (e .line) (n .line)) (e .word)))
       | no d ↦ rw (ne-eqb (e .line) k (λ y. d (sym y)))
           (kept-other ch (alike refl) k d (W k) (h k (subst (λ y. k < y) (lines-of (ch .sizes)) hk)))
     ]

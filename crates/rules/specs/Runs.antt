@@ -1,12 +1,11 @@
 -- Runs over a list of events, and the batch (document 01, "Batch and program"). Assumes nothing.
 use Prim.Native.Nat.{ℕ, zero, suc, _*_, _/_, _%_}
-use mathlib.Core.Bool.{Bool, not, _&&_}
+use mathlib.Core.Bool.{not}
 use mathlib.Core.List.{List, [], _∷_, _++_}
 use lib.Dec.{eqb, ltb}
 use lib.ListN.{length, getD, drop}
 use Rattle.rules.specs.Types.{State, Event, Answer, Batched}
 use Rattle.rules.specs.Tools.{pick}
-use Rattle.rules.specs.Refusals.{writing}
 use Rattle.rules.specs.Effects.{stepOf}
 
 -- the state after the events
@@ -18,20 +17,6 @@ runOf s (e ∷ es) = runOf (stepOf s e .state) es
 unfoldable pub answersOf : State → List Event → List Answer
 answersOf s [] = []
 answersOf s (e ∷ es) = let r = stepOf s e in r .answer ∷ answersOf (r .state) es
-
--- the event was an accepted write to the line
-abbrev pub wrote : Event → Answer → ℕ → Bool
-wrote e a line = eqb (a .number) 0 && (writing (e .kind) && eqb (e .line) line)
-
--- the word of the last accepted write to the line in a history of events and their answers, or w if there was none
-unfoldable pub lastWriteAfter : ℕ → List Event → List Answer → ℕ → ℕ
-lastWriteAfter line [] answers w = w
-lastWriteAfter line (e ∷ es) [] w = w
-lastWriteAfter line (e ∷ es) (a ∷ answers) w = lastWriteAfter line es answers (pick (wrote e a line) (e .word) w)
-
--- the same, or 0 if there was none
-unfoldable pub lastWrite : List Event → List Answer → ℕ → ℕ
-lastWrite es answers line = lastWriteAfter line es answers 0
 
 -- the event record in the first eight words
 abbrev pub eventOf : List ℕ → Event
