@@ -1,5 +1,5 @@
 -- What the private functions state. Assumes nothing.
-use Prim.Native.Nat.{ℕ, zero, suc, _+_, _-_, _*_, _/_, _%_, _<_, _≤_}
+use Prim.Native.Nat.{ℕ, zero, suc, _+_, _-_, _*_, _%_, _<_, _≤_}
 use mathlib.Core.Path.{_≡_}
 use mathlib.Core.Bool.{Bool, true, cond, _&&_}
 use mathlib.Core.List.{List, [], _∷_, _++_}
@@ -83,8 +83,3 @@ unfoldable pub finished : List ℕ → ℕ → ℕ → List ℕ → Taken
 finished s end count words =
     cond (atEnd (drop end s)) (record { count = count; words = words; next = end + passed (drop end s) })
     (unread (end + passed (drop end s)))
-
--- the last k decimal digits of n
-unfoldable pub digits : ℕ → ℕ → List ℕ
-digits zero n = []
-digits (suc k) n = digits k (n / 10) ++ ((48 + n % 10) ∷ [])

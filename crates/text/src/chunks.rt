@@ -1,11 +1,10 @@
-// Many lines at once: events are read into words, answers are written for lines.
+// Many lines at once: events are read into words.
 use crate::reading::take;
-use crate::writing::place;
 ghost use Prim.Native.Nat.{_+_, _≤_, min};
 ghost use mathlib.Core.Path.{_≡_};
 ghost use lib.ListN.{length};
 ghost use lib.Seq.{sets};
-ghost use Rattle.text.specs.Chunks.{Parses, room, printed, printedCount};
+ghost use Rattle.text.specs.Chunks.{Parses, room};
 
 // How far a chunk was read: lines, words put, and the place of the next line.
 pub struct Parsed {
@@ -69,33 +68,4 @@ pub fn parse(s: &[u8], most: usize, words: &mut [u32], marks: &mut [u8]) -> Pars
         words: at,
         next: i,
     }
-}
-
-// Puts the answers to lines with these marks at the start of `dst`, and answers how many bytes that is; 0, and nothing is put, where
-// there are not 33 bytes and three words for each line.
-pub fn print(dst: &mut [u8], marks: &[u8], answers: &[u32]) -> usize
-    ensures { λ r. ⌜ r ≡ printedCount (now (dst .entry)) (now (marks .entry)) (now (answers .entry)) ⌝ }
-    ensures { λ _. ⌜ now (dst .exit) ≡ printed (now (dst .entry)) (now (marks .entry)) (now (answers .entry)) ⌝ }
-{
-    let n = marks.len();
-    if dst.len() / 33 < n {
-        return 0;
-    }
-    if answers.len() / 3 < n {
-        return 0;
-    }
-    let mut j: usize = 0;
-    let mut a: usize = 0;
-    let mut at: usize = 0;
-    while j < n {
-        if marks[j] == 1 {
-            at = place(dst, at, answers[a], answers[a + 1], answers[a + 2]);
-            a += 3;
-            j += 1;
-            continue;
-        }
-        at = place(dst, at, 22, 0, 64);
-        j += 1;
-    }
-    at
 }

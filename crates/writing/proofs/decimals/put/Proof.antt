@@ -3,11 +3,11 @@ use mathlib.Core.Path.{_≡_, refl, _∙_}
 use native.Mathlib.Omega.{arith}
 use lib.ListN.{length, length-set}
 use lib.Seq.{sets}
-use Rattle.text.specs.Parts.{digits}
-use Rattle.text.proofs.Decimals.{put-last, put-end}
+use Rattle.writing.specs.Parts.{digits}
+use Rattle.writing.proofs.Digits.{put-last, put-end}
 use borrow.Author.Needs.{needs}
-use Rattle.text.proofs.writing.put.Statement.{statement}
-use Rattle.text.proofs.writing.put.Tie as tie
+use Rattle.writing.proofs.decimals.put.Statement.{statement}
+use Rattle.writing.proofs.decimals.put.Tie as tie
 
 abbrev Inv-loop : tie.InvT-loop
 Inv-loop dst₀ at k n end i₀ rest₀ dst i rest =

@@ -1,11 +1,11 @@
 use mathlib.Core.Path.{_∙_}
 use native.Mathlib.Omega.{arith}
 use denote.Ref.{now}
-use Rattle.text.specs.Writing.{answerText}
-use Rattle.text.proofs.Answers.{length-answer, no-room, is-put}
+use Rattle.writing.specs.Writing.{answerText}
+use Rattle.writing.proofs.Puts.{length-answer, no-room, is-put}
 use borrow.Author.Needs.{needs}
-use Rattle.text.proofs.writing.write.Statement.{statement}
-use Rattle.text.proofs.writing.write.Tie as tie
+use Rattle.writing.proofs.answers.write.Statement.{statement}
+use Rattle.writing.proofs.answers.write.Tie as tie
 
 width-requires : tie.Need-width-requires
 width-requires c κs = search needs

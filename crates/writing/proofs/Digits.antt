@@ -10,9 +10,9 @@ use borrow.Author.Tests.{lt-ltb, le-ltb, leb-true, leb-false}
 use lib.Dec.{leb}
 use lib.ListN.{length, set, length-append}
 use lib.Seq.{sets}
-use Rattle.text.specs.Writing.{decimalTo, decimal}
-use Rattle.text.specs.Parts.{digits}
+use Rattle.writing.specs.Writing.{decimalTo, decimal}
+use Rattle.writing.specs.Parts.{digits}
 use Rattle.text.proofs.Stores.{sets-snoc}
 
 -- n is spelled by m + 1 digits with no leading zero
 pub record Spans (m n : ℕ) : Type 0 where

@@ -2,11 +2,11 @@ use Prim.Native.Nat.{_+_, _-_, _*_, _/_, _≤_}
 use mathlib.Core.Path.{_≡_, refl, _∙_}
 use native.Mathlib.Omega.{arith}
 use lib.ListN.{length, getD}
-use Rattle.text.specs.Writing.{answerText}
-use Rattle.text.proofs.Answers.{answer-short, fits, Printing, printing-start, text-event, text-other, printing-more, printing-end, no-bytes, no-words}
+use Rattle.writing.specs.Writing.{answerText}
+use Rattle.writing.proofs.Puts.{answer-short, fits, Printing, printing-start, text-event, text-other, printing-more, printing-end, no-bytes, no-words}
 use borrow.Author.Needs.{needs}
-use Rattle.text.proofs.chunks.print.Statement.{statement}
-use Rattle.text.proofs.chunks.print.Tie as tie
+use Rattle.writing.proofs.answers.print.Statement.{statement}
+use Rattle.writing.proofs.answers.print.Tie as tie
 
 abbrev Inv-loop : tie.InvT-loop
 Inv-loop dst₀ marks answers n j₀ a₀ at₀ dst j a at =

@@ -1,14 +1,14 @@
-// One answer as text.
+// A number as text.
 ghost use Prim.Native.Nat.{_+_, _≤_, _<_};
 ghost use mathlib.Core.Path.{_≡_};
 ghost use mathlib.Core.List.{[], _∷_, _++_};
 ghost use lib.ListN.{length};
 ghost use lib.Seq.{sets};
-ghost use Rattle.text.specs.Writing.{decimal, ended, answerText, putAt, putCount};
-ghost use Rattle.text.specs.Parts.{digits};
+ghost use Rattle.writing.specs.Writing.{decimal, ended};
+ghost use Rattle.writing.specs.Parts.{digits};
 
 // How many decimal digits a number has.
-fn width(n: u32) -> usize
+pub(crate) fn width(n: u32) -> usize
     ensures { λ r. ⌜ (r ≡ length (decimal n)) × (r ≤ 10) ⌝ }
 {
     if n < 10 {
@@ -57,7 +57,7 @@ fn put(dst: &mut [u8], at: usize, k: usize, n: u32, end: u8)
 }
 
 // Puts the digits of `n` and the byte `end`, and answers the place after them. Most numbers have one or two digits: no loop.
-fn put_number(dst: &mut [u8], at: usize, n: u32, end: u8) -> usize
+pub(crate) fn put_number(dst: &mut [u8], at: usize, n: u32, end: u8) -> usize
     requires { ⌜ at + length (decimal n) < length (now dst) ⌝ }
     ensures { λ r. ⌜ r ≡ at + length (ended n end) ⌝ }
     ensures { λ _. ⌜ now (dst .exit) ≡ sets (now (dst .entry)) at (ended n end) ⌝ }
@@ -76,31 +76,4 @@ fn put_number(dst: &mut [u8], at: usize, n: u32, end: u8) -> usize
     let k = width(n);
     put(dst, at, k, n, end);
     at + k + 1
-}
-
-// Puts the text of an answer where there is room for it, and answers the place after it: `print` has counted the room before.
-pub(crate) fn place(dst: &mut [u8], at: usize, n: u32, word: u32, slot: u32) -> usize
-    requires { ⌜ at + length (answerText n word slot) ≤ length (now dst) ⌝ }
-    ensures { λ r. ⌜ r ≡ at + length (answerText n word slot) ⌝ }
-    ensures { λ _. ⌜ now (dst .exit) ≡ sets (now (dst .entry)) at (answerText n word slot) ⌝ }
-{
-    let p = put_number(dst, at, n, 9);
-    let q = put_number(dst, p, word, 9);
-    put_number(dst, q, slot, 10)
-}
-
-// Puts the text of an answer from place `at` on, and answers how many bytes it is; 0, and nothing is put, where it does not fit.
-pub fn write(dst: &mut [u8], at: usize, number: u32, word: u32, slot: u32) -> usize
-    ensures { λ r. ⌜ r ≡ putCount (now (dst .entry)) at (answerText number word slot) ⌝ }
-    ensures { λ _. ⌜ now (dst .exit) ≡ putAt (now (dst .entry)) at (answerText number word slot) ⌝ }
-{
-    let count = width(number) + width(word) + width(slot) + 3;
-    if dst.len() < at {
-        return 0;
-    }
-    if dst.len() - at < count {
-        return 0;
-    }
-    place(dst, at, number, word, slot);
-    count
 }

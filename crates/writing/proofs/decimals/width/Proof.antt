@@ -1,9 +1,9 @@
 use mathlib.Core.Logic.{inl, inr}
 use mathlib.Core.Path.{refl}
 use native.Mathlib.Omega.{arith}
-use Rattle.text.proofs.Decimals.{width-is}
-use Rattle.text.proofs.writing.width.Statement.{statement}
-use Rattle.text.proofs.writing.width.Tie as tie
+use Rattle.writing.proofs.Digits.{width-is}
+use Rattle.writing.proofs.decimals.width.Statement.{statement}
+use Rattle.writing.proofs.decimals.width.Tie as tie
 
 returns : tie.Need-returns
 returns c = width-is 0 _ (omega arith) (c .if1 .taken) (inl refl)

@@ -1,8 +1,8 @@
 use native.Mathlib.Omega.{arith}
-use Rattle.text.proofs.Answers.{length-ended, length-answer, puts-answer}
+use Rattle.writing.proofs.Puts.{length-ended, length-answer, puts-answer}
 use borrow.Author.Needs.{needs}
-use Rattle.text.proofs.writing.place.Statement.{statement}
-use Rattle.text.proofs.writing.place.Tie as tie
+use Rattle.writing.proofs.answers.place.Statement.{statement}
+use Rattle.writing.proofs.answers.place.Tie as tie
 
 put-number-requires : tie.Need-put-number-requires
 put-number-requires c κs =

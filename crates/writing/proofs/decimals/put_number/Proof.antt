@@ -1,10 +1,10 @@
 use mathlib.Core.Path.{ap}
 use native.Mathlib.Omega.{arith}
 use lib.ListN.{length, length-set}
-use Rattle.text.proofs.Answers.{one-digit, two-digits, puts-one, puts-two, puts-digits}
+use Rattle.writing.proofs.Puts.{one-digit, two-digits, puts-one, puts-two, puts-digits}
 use borrow.Author.Needs.{needs}
-use Rattle.text.proofs.writing.put_number.Statement.{statement}
-use Rattle.text.proofs.writing.put_number.Tie as tie
+use Rattle.writing.proofs.decimals.put_number.Statement.{statement}
+use Rattle.writing.proofs.decimals.put_number.Tie as tie
 
 cast-dst : tie.Need-cast-dst
 cast-dst c = search needs

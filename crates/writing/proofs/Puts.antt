@@ -10,11 +10,10 @@ use borrow.Author.Tests.{eq-eqb, ne-eqb, le-leb, lt-leb, lt-ltb, le-ltb}
 use lib.Dec.{ltb}
 use lib.ListN.{length, getD, set, drop, length-append, drop-of-length-le}
 use lib.Seq.{sets, sets-eq, drop-cons, drop-drop, getD-drop}
-use Rattle.text.specs.Writing.{decimalTo, decimal, ended, answerText, putAt, putCount}
-use Rattle.text.specs.Chunks.{answersText, printed, printedCount}
-use Rattle.text.specs.Parts.{digits}
+use Rattle.writing.specs.Writing.{decimalTo, decimal, ended, answerText, putAt, putCount, answersText, printed, printedCount}
+use Rattle.writing.specs.Parts.{digits}
 use Rattle.text.proofs.Stores.{sets-append}
-use Rattle.text.proofs.Decimals.{spans, decimal-is, length-digits}
+use Rattle.writing.proofs.Digits.{spans, decimal-is, length-digits}
 
 -- ---- one answer
 

@@ -1,0 +1,64 @@
+// Answers as text: one, and many at once.
+use crate::decimals::put_number;
+use crate::decimals::width;
+ghost use Prim.Native.Nat.{_+_, _≤_};
+ghost use mathlib.Core.Path.{_≡_};
+ghost use lib.ListN.{length};
+ghost use lib.Seq.{sets};
+ghost use Rattle.writing.specs.Writing.{answerText, putAt, putCount, printed, printedCount};
+
+// Puts the text of an answer where there is room for it, and answers the place after it: `print` has counted the room before.
+fn place(dst: &mut [u8], at: usize, n: u32, word: u32, slot: u32) -> usize
+    requires { ⌜ at + length (answerText n word slot) ≤ length (now dst) ⌝ }
+    ensures { λ r. ⌜ r ≡ at + length (answerText n word slot) ⌝ }
+    ensures { λ _. ⌜ now (dst .exit) ≡ sets (now (dst .entry)) at (answerText n word slot) ⌝ }
+{
+    let p = put_number(dst, at, n, 9);
+    let q = put_number(dst, p, word, 9);
+    put_number(dst, q, slot, 10)
+}
+
+// Puts the text of an answer from place `at` on, and answers how many bytes it is; 0, and nothing is put, where it does not fit.
+pub fn write(dst: &mut [u8], at: usize, number: u32, word: u32, slot: u32) -> usize
+    ensures { λ r. ⌜ r ≡ putCount (now (dst .entry)) at (answerText number word slot) ⌝ }
+    ensures { λ _. ⌜ now (dst .exit) ≡ putAt (now (dst .entry)) at (answerText number word slot) ⌝ }
+{
+    let count = width(number) + width(word) + width(slot) + 3;
+    if dst.len() < at {
+        return 0;
+    }
+    if dst.len() - at < count {
+        return 0;
+    }
+    place(dst, at, number, word, slot);
+    count
+}
+
+// Puts the answers to lines with these marks at the start of `dst`, and answers how many bytes that is; 0, and nothing is put, where
+// there are not 33 bytes and three words for each line.
+pub fn print(dst: &mut [u8], marks: &[u8], answers: &[u32]) -> usize
+    ensures { λ r. ⌜ r ≡ printedCount (now (dst .entry)) (now (marks .entry)) (now (answers .entry)) ⌝ }
+    ensures { λ _. ⌜ now (dst .exit) ≡ printed (now (dst .entry)) (now (marks .entry)) (now (answers .entry)) ⌝ }
+{
+    let n = marks.len();
+    if dst.len() / 33 < n {
+        return 0;
+    }
+    if answers.len() / 3 < n {
+        return 0;
+    }
+    let mut j: usize = 0;
+    let mut a: usize = 0;
+    let mut at: usize = 0;
+    while j < n {
+        if marks[j] == 1 {
+            at = place(dst, at, answers[a], answers[a + 1], answers[a + 2]);
+            a += 3;
+            j += 1;
+            continue;
+        }
+        at = place(dst, at, 22, 0, 64);
+        j += 1;
+    }
+    at
+}
