@@ -83,3 +83,10 @@ unfoldable pub finished : List ℕ → ℕ → ℕ → List ℕ → Taken
 finished s end count words =
     cond (atEnd (drop end s)) (record { count = count; words = words; next = end + passed (drop end s) })
     (unread (end + passed (drop end s)))
+
+-- the words of a line of so many numbers, and its mark: eight numbers are an event
+unfoldable pub eventWords : ℕ → List ℕ → List ℕ
+eventWords count w = cond (eqb count 8) w []
+
+unfoldable pub eventMark : ℕ → ℕ
+eventMark count = cond (eqb count 8) 1 0
