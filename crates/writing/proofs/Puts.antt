@@ -6,12 +6,12 @@ use mathlib.Core.List.{List, [], _∷_, _++_}
 use native.Mathlib.Omega.{arith}
 use native.Mathlib.Nat.{add-zero, zero-add}
 use native.Mathlib.Numerals.{add-one}
-use borrow.Author.Tests.{eq-eqb, ne-eqb, le-leb, lt-leb, lt-ltb, le-ltb}
-use lib.Dec.{ltb}
+use borrow.Author.Tests.{le-leb, lt-leb, lt-ltb, le-ltb}
+use lib.Dec.{ltb, eqb}
 use lib.ListN.{length, getD, set, drop, length-append, drop-of-length-le}
 use lib.Seq.{sets, sets-eq, drop-cons, drop-drop, getD-drop}
 use Rattle.writing.specs.Writing.{decimalTo, decimal, ended, answerText, putAt, putCount, answersText, printed, printedCount}
-use Rattle.writing.specs.Parts.{digits}
+use Rattle.writing.specs.Parts.{digits, answerAt, wordsOf}
 use Rattle.text.proofs.Stores.{sets-append}
 use Rattle.writing.proofs.Digits.{spans, decimal-is, length-digits}
 
@@ -43,8 +43,8 @@ answer-short a b c =
     let l = length-answer a b c in
     omega arith
 
-pub fits : (d : List ℕ) (at a b c : ℕ) → at + 33 ≤ length d → at + length (answerText a b c) ≤ length d
-fits d at a b c h = let s = answer-short a b c in omega arith
+pub fits : (n at a b c : ℕ) → at + 33 ≤ n → at + length (answerText a b c) ≤ n
+fits n at a b c h = let s = answer-short a b c in omega arith
 
 -- ---- bytes are put
 
@@ -117,25 +117,29 @@ pub record Printing (d₀ ms ws : List ℕ) (j a at : ℕ) (d : List ℕ) : Type
 pub printing-start : (d ms ws : List ℕ) → Printing d ms ws 0 0 0 d
 printing-start d ms ws = record { total = zero-add _; bytes = refl }
 
-pub text-event : (ms ws : List ℕ) (j a : ℕ) → j < length ms → getD ms j 0 ≡ 1
-    → leftText ms ws j a ≡ answerText (getD ws a 0) (getD ws (a + 1) 0) (getD ws (a + 2) 0) ++ leftText ms ws (j + 1) (a + 3)
-unfolding answersText
-text-event ms ws j a h e =
-    rw (drop-cons ms j 0 h, eq-eqb _ _ e, getD-drop a ws 0 0, getD-drop a ws 1 0, getD-drop a ws 2 0, add-zero a, drop-drop 3 a ws, add-one j)
+text-either : (t : Bool) (ms ws : List ℕ) (a : ℕ)
+    → cond t (answerText (getD (drop a ws) 0 0) (getD (drop a ws) 1 0) (getD (drop a ws) 2 0) ++ answersText ms (drop 3 (drop a ws)))
+    (answerText 22 0 64 ++ answersText ms (drop a ws))
+    ≡ cond t (answerText (getD ws a 0) (getD ws (a + 1) 0) (getD ws (a + 2) 0)) (answerText 22 0 64) ++ answersText ms (drop (a + cond t 3 0) ws)
+text-either true ms ws a = rw (getD-drop a ws 0 0, getD-drop a ws 1 0, getD-drop a ws 2 0, add-zero a, drop-drop 3 a ws)
+text-either false ms ws a = rw (add-zero a)
 
-pub text-other : (ms ws : List ℕ) (j a : ℕ) → j < length ms → (getD ms j 0 ≡ 1 → ⊥)
-    → leftText ms ws j a ≡ answerText 22 0 64 ++ leftText ms ws (j + 1) a
-unfolding answersText
-text-other ms ws j a h e = rw (drop-cons ms j 0 h, ne-eqb _ _ e, add-one j)
+text-next : (ms ws : List ℕ) (j a : ℕ) → j < length ms
+    → leftText ms ws j a ≡ answerAt (getD ms j 0) ws a ++ leftText ms ws (j + 1) (a + wordsOf (getD ms j 0))
+unfolding answersText answerAt wordsOf
+text-next ms ws j a h = rw (drop-cons ms j 0 h, add-one j) (text-either (eqb (getD ms j 0) 1) (drop (suc j) ms) ws a)
 
 -- an answer is put
-pub printing-more : (d₀ ms ws : List ℕ) (j a at : ℕ) (d : List ℕ) → Printing d₀ ms ws j a at d
-    → (t : List ℕ) (j′ a′ at′ : ℕ) (d′ : List ℕ) → leftText ms ws j a ≡ t ++ leftText ms ws j′ a′
-    → Puts d at t at′ d′ → Printing d₀ ms ws j′ a′ at′ d′
-printing-more d₀ ms ws j a at d g t j′ a′ at′ d′ e p =
+pub printing-more : (d₀ ms ws : List ℕ) (j a at : ℕ) (d : List ℕ) → Printing d₀ ms ws j a at d → j < length ms
+    → (k at′ : ℕ) (d′ : List ℕ) → k ≡ wordsOf (getD ms j 0) → Puts d at (answerAt (getD ms j 0) ws a) at′ d′
+    → Printing d₀ ms ws (j + 1) (a + k) at′ d′
+printing-more d₀ ms ws j a at d g h k at′ d′ q p =
+    let t = answerAt (getD ms j 0) ws a in
+    let rest = leftText ms ws (j + 1) (a + k) in
+    let e : leftText ms ws j a ≡ t ++ rest = rw q (text-next ms ws j a h) in
     record {
-      total = let u = ap length e ∙ length-append t (leftText ms ws j′ a′) in let v = g .total in let w = p .0 in omega arith;
-      bytes = rw (p .1, p .0) (sym (sets-append t (leftText ms ws j′ a′) d at) ∙ ap (sets d at) (sym e) ∙ g .bytes);
+      total = let u = ap length e ∙ length-append t rest in let v = g .total in let w = p .0 in omega arith;
+      bytes = rw (p .1, p .0) (sym (sets-append t rest d at) ∙ ap (sets d at) (sym e) ∙ g .bytes);
     }
 
 abbrev Printed : List ℕ → List ℕ → List ℕ → ℕ → List ℕ → Type 0

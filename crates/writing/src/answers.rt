@@ -6,6 +6,7 @@ ghost use mathlib.Core.Path.{_≡_};
 ghost use lib.ListN.{length};
 ghost use lib.Seq.{sets};
 ghost use Rattle.writing.specs.Writing.{answerText, putAt, putCount, printed, printedCount};
+ghost use Rattle.writing.specs.Parts.{answerAt, wordsOf};
 
 // Puts the text of an answer where there is room for it, and answers the place after it: `print` has counted the room before.
 fn place(dst: &mut [u8], at: usize, n: u32, word: u32, slot: u32) -> usize
@@ -34,6 +35,25 @@ pub fn write(dst: &mut [u8], at: usize, number: u32, word: u32, slot: u32) -> us
     count
 }
 
+// Puts the answer to a line: for an event the three words at place `a`, for another line 22, 0, 64. Answers the place after it.
+fn put_answer(dst: &mut [u8], at: usize, mark: u8, answers: &[u32], a: usize) -> usize
+    requires { ⌜ (at + 33 ≤ length (now dst)) × (a + 3 ≤ length (now answers)) ⌝ }
+    ensures { λ r. ⌜ (r ≡ at + length (answerAt mark (now (answers .entry)) a)) × (r ≤ at + 33) ⌝ }
+    ensures { λ _. ⌜ now (dst .exit) ≡ sets (now (dst .entry)) at (answerAt mark (now (answers .entry)) a) ⌝ }
+{
+    if mark == 1 {
+        return place(dst, at, answers[a], answers[a + 1], answers[a + 2]);
+    }
+    place(dst, at, 22, 0, 64)
+}
+
+// How many words the answer to a line with this mark has: three for an event, else none.
+fn words_of(mark: u8) -> usize
+    ensures { λ r. ⌜ (r ≡ wordsOf mark) × (r ≤ 3) ⌝ }
+{
+    if mark == 1 { 3 } else { 0 }
+}
+
 // Puts the answers to lines with these marks at the start of `dst`, and answers how many bytes that is; 0, and nothing is put, where
 // there are not 33 bytes and three words for each line.
 pub fn print(dst: &mut [u8], marks: &[u8], answers: &[u32]) -> usize
@@ -51,13 +71,9 @@ pub fn print(dst: &mut [u8], marks: &[u8], answers: &[u32]) -> usize
     let mut a: usize = 0;
     let mut at: usize = 0;
     while j < n {
-        if marks[j] == 1 {
-            at = place(dst, at, answers[a], answers[a + 1], answers[a + 2]);
-            a += 3;
-            j += 1;
-            continue;
-        }
-        at = place(dst, at, 22, 0, 64);
+        let mark = marks[j];
+        at = put_answer(dst, at, mark, answers, a);
+        a += words_of(mark);
         j += 1;
     }
     at

@@ -1,6 +1,7 @@
 use mathlib.Core.Path.{_∙_}
 use native.Mathlib.Omega.{arith}
 use denote.Ref.{now}
+use lib.Seq.{sets}
 use Rattle.writing.specs.Writing.{answerText}
 use Rattle.writing.proofs.Puts.{length-answer, no-room, is-put}
 use borrow.Author.Needs.{needs}
@@ -53,8 +54,9 @@ returns-3 : tie.Need-returns-3
 returns-3 c =
     let a = c .before .before .before .before .before .before .before .before .before .before .args in
     let l = length-answer (a .number) (a .word) (a .slot) in
-    let w = is-put (now (a .dst)) (a .at) (answerText (a .number) (a .word) (a .slot)) (omega arith) in
-    (omega arith, c .before .before .place .ensures .1 ∙ w .1)
+    let t = answerText (a .number) (a .word) (a .slot) in
+    let w = is-put (now (a .dst)) (a .at) t (omega arith) in
+    (omega arith, _∙_ {b = sets (now (a .dst)) (a .at) t} (c .before .before .place .ensures .1) (w .1))
 
 pub write-spec : {M : Type 1} → statement M
 write-spec =
