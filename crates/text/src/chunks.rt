@@ -1,6 +1,7 @@
 // Many lines at once: events are read into words.
 use crate::reading::take;
-ghost use Prim.Native.Nat.{_+_, _≤_, _<_, min};
+use crate::sizes::least;
+ghost use Prim.Native.Nat.{_+_, _≤_, _<_};
 ghost use mathlib.Core.Path.{_≡_};
 ghost use lib.ListN.{length, set};
 ghost use lib.Seq.{sets};
@@ -12,12 +13,6 @@ pub struct Parsed {
     pub lines: usize,
     pub words: usize,
     pub next: usize,
-}
-
-fn least(a: usize, b: usize) -> usize
-    ensures { λ r. ⌜ r ≡ min a b ⌝ }
-{
-    if a < b { a } else { b }
 }
 
 // Puts eight words from place `at` on.

@@ -2,8 +2,10 @@
 mod chunks;
 mod numbers;
 mod reading;
+mod sizes;
 
 pub use chunks::Parsed;
 pub use chunks::parse;
 pub use reading::Taken;
 pub use reading::take;
+pub use sizes::least;
