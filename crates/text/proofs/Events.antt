@@ -17,7 +17,7 @@ use Rattle.text.specs.Lines.{linesOf, firstLine, passed, passedBy}
 use Rattle.text.specs.Reading.{numbersOf, exactly, unread, packed, takenAt}
 use Rattle.text.specs.Chunks.{known, isKnown, eventIn, markOf, wordsIn, Parses}
 use Rattle.text.specs.Parts.{eventWords, eventMark}
-use Rattle.text.proofs.Bools.{and-true}
+use Rattle.text.proofs.Bools.{and-both}
 use Rattle.text.proofs.Stores.{sets-append}
 use Rattle.text.proofs.Lines.{lines-at, passed-nil}
 
@@ -66,7 +66,7 @@ next-any (some ns) next = next-either (leb (length ns) 8) ns next
 -- ---- a run
 
 pub both-less : (a b c d : ℕ) → ltb a b && ltb c d ≡ true → (a < b) × (c < d)
-both-less a b c d e = let h = and-true (ltb a b) (ltb c d) e in (ltb-true a b (h .0), ltb-true c d (h .1))
+both-less a b c d e = let h = and-both (ltb a b) (ltb c d) e in (ltb-true a b (h .0), ltb-true c d (h .1))
 
 not-less : (a b c d : ℕ) → ltb a b && ltb c d ≡ false → (b ≤ a) ⊎ (d ≤ c)
 not-less a b c d e = either (ltb a b) refl e

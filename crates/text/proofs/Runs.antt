@@ -1,7 +1,7 @@
 -- Digits from a place on, and the number of the field there. Assumes nothing.
 use Prim.Native.Nat.{ℕ, _+_, _-_, _*_, _≤_, _<_}
 use mathlib.Core.Path.{_≡_, refl, sym, ap, subst, _∙_}
-use mathlib.Core.Bool.{Bool, true, false}
+use mathlib.Core.Bool.{Bool, true, false, true≢false}
 use mathlib.Core.List.{List, [], _∷_, _++_, append-assoc}
 use mathlib.Core.Option.{none, some}
 use native.Mathlib.Omega.{arith}
@@ -15,7 +15,7 @@ use Rattle.text.specs.declared.numbers.Run.{Run}
 use Rattle.text.specs.Lines.{firstLine, passed}
 use Rattle.text.specs.Reading.{fieldsOf, isDigit, allDigits, unpadded, spelled, valueOf, valuesOf}
 use Rattle.text.specs.Parts.{Digits, Stops, Runs, numbers, Found}
-use Rattle.text.proofs.Bools.{not-both, digit-in}
+use Rattle.text.proofs.Bools.{digit-in}
 use Rattle.text.proofs.Values.{spelled-snoc, all-snoc, unpadded-lead, unpadded-one, value-some, no-digit, too-large, padded}
 use Rattle.text.proofs.Fields.{numbers-none, numbers-other}
 use Rattle.text.proofs.Lines.{first-here, first-end, first-none, free, free-digits, first-free, passed-free}
@@ -124,7 +124,7 @@ module _ (s : List ℕ) (from : ℕ) where
   found-end h = found-none s from (no-digits s from _ _ refl refl (λ k d. absurd (omega arith)))
 
   pub found-other : isDigit (getD s from 0) ≡ false → Found s from (record { value = 0; end = from; after = 0 })
-  found-other e = found-none s from (no-digits s from _ _ refl refl (λ k d. absurd (not-both _ d e)))
+  found-other e = found-none s from (no-digits s from _ _ refl refl (λ k d. absurd (true≢false (sym d ∙ e))))
 
   pub found-large : (r : Run) → Runs s from r → 4294967295 < r .value → Found s from (record { value = 0; end = from; after = 0 })
   found-large r g h = found-none s from (large s from (r .end) (r .value) (g .run) h)
@@ -143,7 +143,7 @@ module _ (s : List ℕ) (from : ℕ) where
           refused = λ z. absurd (omega arith);
           value = λ l. field-value s from (from + 1) (getD s from 0 - 48) one l (omega arith) (λ m. absurd (omega arith));
           after = λ l. a;
-          stop = λ l m e. absurd (not-both _ e (n m));
+          stop = λ l m e. absurd (true≢false (sym e ∙ n m));
         }
 
     -- a zero and a further digit

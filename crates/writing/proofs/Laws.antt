@@ -12,7 +12,7 @@ use lib.Dec.{eqb}
 use lib.ListN.{length, getD, length-append, List·getD-append}
 use Rattle.text.specs.Lines.{linesOf, firstLine, passed}
 use Rattle.text.specs.Reading.{fieldsOf, allDigits, unpadded, spelled, valueOf, valuesOf, numbersOf}
-use Rattle.text.proofs.Bools.{and-true, digit-yes}
+use Rattle.text.proofs.Bools.{and-both, digit-yes}
 use Rattle.text.proofs.Lines.{free, free-append, free-digits, lines-free}
 use Rattle.text.proofs.Values.{spelled-snoc, all-snoc, unpadded-lead, value-some}
 use Rattle.writing.specs.Writing.{decimal, ended, answerText}
@@ -76,14 +76,14 @@ fields-tab : (f s : List ℕ) → free 9 f ≡ true → fieldsOf ((f ++ (9 ∷ [
 unfolding free fieldsOf
 fields-tab [] s p = refl
 fields-tab (b ∷ f) s p =
-    let h = and-true (not (eqb b 9)) (free 9 f) p in
+    let h = and-both (not (eqb b 9)) (free 9 f) p in
     rw (not-true (eqb b 9) (h .0), fields-tab f s (h .1))
 
 fields-last : (f : List ℕ) → free 9 f ≡ true → fieldsOf f ≡ f ∷ []
 unfolding free fieldsOf
 fields-last [] p = refl
 fields-last (b ∷ f) p =
-    let h = and-true (not (eqb b 9)) (free 9 f) p in
+    let h = and-both (not (eqb b 9)) (free 9 f) p in
     rw (not-true (eqb b 9) (h .0), fields-last f (h .1))
 
 module _ (a b c : ℕ) (small-a : a < 2 ^ 32) (small-b : b < 2 ^ 32) (small-c : c < 2 ^ 32) where

@@ -65,24 +65,24 @@ puts-answer d d₁ d₂ d₃ at p q r a b c f g h =
     puts-append (ended a 9) (ended b 9 ++ ended c 10) d d₁ d₃ at p r f (puts-append (ended b 9) (ended c 10) d₁ d₂ d₃ p q r g h)
 
 -- a number of one digit, and one of two
-pub one-digit : (n : ℕ) → n < 10 → decimal n ≡ (48 + n) ∷ []
+pub decimal-one : (n : ℕ) → n < 10 → decimal n ≡ (48 + n) ∷ []
 unfolding decimal decimalTo
-one-digit n h = rw (lt-ltb n 10 h)
+decimal-one n h = rw (lt-ltb n 10 h)
 
-pub two-digits : (n : ℕ) → 10 ≤ n → n < 100 → decimal n ≡ (48 + n / 10) ∷ (48 + n % 10) ∷ []
+pub decimal-two : (n : ℕ) → 10 ≤ n → n < 100 → decimal n ≡ (48 + n / 10) ∷ (48 + n % 10) ∷ []
 unfolding decimal decimalTo
-two-digits n h k = rw (le-ltb n 10 h, lt-ltb (n / 10) 10 (omega arith))
+decimal-two n h k = rw (le-ltb n 10 h, lt-ltb (n / 10) 10 (omega arith))
 
 pub puts-one : (d : List ℕ) (at n b : ℕ) → n < 10 → Puts d at (ended n b) (at + 2) (set (set d at (48 + n)) (at + 1) b)
 unfolding ended
-puts-one d at n b h = rw (one-digit n h, add-one at) (refl, refl)
+puts-one d at n b h = rw (decimal-one n h, add-one at) (refl, refl)
 
 pub puts-two : (d : List ℕ) (at n b : ℕ) → 10 ≤ n → n < 100
     → Puts d at (ended n b) (at + 3) (set (set (set d at (48 + n / 10)) (at + 1) (48 + n % 10)) (at + 2) b)
 unfolding ended
 puts-two d at n b h k =
     let e : at + 2 ≡ suc (suc at) = omega arith in
-    rw (two-digits n h k, e, add-one at) (refl, refl)
+    rw (decimal-two n h k, e, add-one at) (refl, refl)
 
 -- the digits of a number of this width
 pub puts-digits : (d d′ : List ℕ) (at n b i : ℕ) → n < 2 ^ 32 → i ≡ length (decimal n) → d′ ≡ sets d at (digits i n ++ (b ∷ []))

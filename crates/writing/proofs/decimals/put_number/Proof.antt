@@ -1,7 +1,7 @@
 use mathlib.Core.Path.{ap}
 use native.Mathlib.Omega.{arith}
 use lib.ListN.{length, length-set}
-use Rattle.writing.proofs.Puts.{one-digit, two-digits, puts-one, puts-two, puts-digits}
+use Rattle.writing.proofs.Puts.{decimal-one, decimal-two, puts-one, puts-two, puts-digits}
 use borrow.Author.Needs.{needs}
 use Rattle.writing.proofs.decimals.put_number.Statement.{statement}
 use Rattle.writing.proofs.decimals.put_number.Tie as tie
@@ -15,7 +15,7 @@ add-dst c = search needs
 slice-write-dst : tie.Need-slice-write-dst
 slice-write-dst c =
     let a = c .before .before .args in
-    let l = ap length (one-digit (a .n) (c .if1 .taken)) in
+    let l = ap length (decimal-one (a .n) (c .if1 .taken)) in
     omega arith
 
 add-dst-2 : tie.Need-add-dst-2
@@ -24,7 +24,7 @@ add-dst-2 c = search needs
 slice-write-dst-2 : tie.Need-slice-write-dst-2
 slice-write-dst-2 c =
     let a = c .before .before .args in
-    let l = ap length (one-digit (a .n) (c .if1 .taken)) in
+    let l = ap length (decimal-one (a .n) (c .if1 .taken)) in
     simp length-set (omega arith)
 
 add-result : tie.Need-add-result
@@ -45,7 +45,7 @@ add-dst-3 c = search needs
 slice-write-dst-3 : tie.Need-slice-write-dst-3
 slice-write-dst-3 c =
     let a = c .before .before .before .args in
-    let l = ap length (two-digits (a .n) (c .before .if1 .left) (c .if2 .taken)) in
+    let l = ap length (decimal-two (a .n) (c .before .if1 .left) (c .if2 .taken)) in
     omega arith
 
 cast-dst-3 : tie.Need-cast-dst-3
@@ -60,7 +60,7 @@ add-dst-5 c = search needs
 slice-write-dst-4 : tie.Need-slice-write-dst-4
 slice-write-dst-4 c =
     let a = c .before .before .before .args in
-    let l = ap length (two-digits (a .n) (c .before .if1 .left) (c .if2 .taken)) in
+    let l = ap length (decimal-two (a .n) (c .before .if1 .left) (c .if2 .taken)) in
     simp length-set (omega arith)
 
 add-dst-6 : tie.Need-add-dst-6
@@ -69,7 +69,7 @@ add-dst-6 c = search needs
 slice-write-dst-5 : tie.Need-slice-write-dst-5
 slice-write-dst-5 c =
     let a = c .before .before .before .args in
-    let l = ap length (two-digits (a .n) (c .before .if1 .left) (c .if2 .taken)) in
+    let l = ap length (decimal-two (a .n) (c .before .if1 .left) (c .if2 .taken)) in
     simp length-set (omega arith)
 
 add-result-2 : tie.Need-add-result-2
