@@ -43,12 +43,6 @@ pub record Found (s : List ℕ) (from : ℕ) (r : Number) : Type 0 where
   pub after : from < r .end → r .after ≡ getD s (r .end) 10
   pub stop : from < r .end → Stops s (r .end) (r .value)
 
--- two digits stand at a place
-pub record TwoDigits (s : List ℕ) (from : ℕ) : Type 0 where
-  pub within : from + 1 < length s
-  pub first : isDigit (getD s from 0) ≡ true
-  pub second : isDigit (getD s (from + 1) 0) ≡ true
-
 -- a digit and a tab stand at a place, and the digit spells v
 pub record Short (s : List ℕ) (from v : ℕ) : Type 0 where
   pub within : from + 1 < length s
