@@ -34,6 +34,11 @@ pub length-answer : (a b c : ℕ) → length (answerText a b c) ≡ length (deci
 unfolding answerText
 length-answer a b c = simp (length-append, length-ended) (omega arith)
 
+-- the same, as three numbers take it up
+pub lengths : (a b c : ℕ)
+    → (length (answerText a b c) ≡ length (decimal a) + length (decimal b) + length (decimal c) + 3) × (length (ended a 9) ≡ length (decimal a) + 1) × (length (ended b 9) ≡ length (decimal b) + 1)
+lengths a b c = (length-answer a b c, length-ended a 9, length-ended b 9)
+
 pub answer-short : (a b c : ℕ) → length (answerText a b c) ≤ 33
 unfolding decimal
 answer-short a b c =

@@ -38,8 +38,8 @@ pub fn write(dst: &mut [u8], at: usize, number: u32, word: u32, slot: u32) -> us
 // Puts the answer to a line: for an event the three words at place `a`, for another line 22, 0, 64. Answers the place after it.
 fn put_answer(dst: &mut [u8], at: usize, mark: u8, answers: &[u32], a: usize) -> usize
     requires { ⌜ (at + 33 ≤ length (now dst)) × (a + 3 ≤ length (now answers)) ⌝ }
-    ensures { λ r. ⌜ (r ≡ at + length (answerAt mark (now (answers .entry)) a)) × (r ≤ at + 33) ⌝ }
     ensures { λ _. ⌜ now (dst .exit) ≡ sets (now (dst .entry)) at (answerAt mark (now (answers .entry)) a) ⌝ }
+    ensures { λ r. ⌜ (r ≡ at + length (answerAt mark (now (answers .entry)) a)) × (r ≤ at + 33) ⌝ }
 {
     if mark == 1 {
         return place(dst, at, answers[a], answers[a + 1], answers[a + 2]);

@@ -1,5 +1,5 @@
 use native.Mathlib.Omega.{arith}
-use Rattle.writing.proofs.Puts.{length-ended, length-answer, puts-answer}
+use Rattle.writing.proofs.Puts.{lengths, puts-answer}
 use borrow.Author.Needs.{needs}
 use Rattle.writing.proofs.answers.place.Statement.{statement}
 use Rattle.writing.proofs.answers.place.Tie as tie
@@ -7,22 +7,19 @@ use Rattle.writing.proofs.answers.place.Tie as tie
 put-number-requires : tie.Need-put-number-requires
 put-number-requires c κs =
     let a = c .before .before .args in
-    let l = length-answer (a .n) (a .word) (a .slot) in
+    let l = lengths (a .n) (a .word) (a .slot) in
     omega arith
 
 put-number-requires-2 : tie.Need-put-number-requires-2
 put-number-requires-2 c κs =
     let a = c .before .before .before .before .before .before .args in
-    let l = length-answer (a .n) (a .word) (a .slot) in
-    let x = length-ended (a .n) 9 in
+    let l = lengths (a .n) (a .word) (a .slot) in
     omega arith
 
 put-number-requires-3 : tie.Need-put-number-requires-3
 put-number-requires-3 c κs =
     let a = c .before .before .before .before .before .before .before .before .before .before .args in
-    let l = length-answer (a .n) (a .word) (a .slot) in
-    let x = length-ended (a .n) 9 in
-    let y = length-ended (a .word) 9 in
+    let l = lengths (a .n) (a .word) (a .slot) in
     omega arith
 
 same-length : tie.Need-same-length

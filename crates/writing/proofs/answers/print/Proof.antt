@@ -48,7 +48,7 @@ loop-again c =
     let p = c .before .before .before .put-answer in
     let w = c .words-of in
     let g = printing-more _ _ _ (l .j) (l .a) (l .at) (l .dst) (l .inv .7) (omega (arith, l .inv)) (w .result) (p .result) (p .last .0) (w .ensures .0)
-    (p .ensures .0 .0, p .ensures .1) in
+    (p .ensures .1 .0, p .ensures .0) in
     (refl, l .inv .1, l .inv .2, p .kept .0 ∙ l .inv .3, omega (arith, l .inv), omega (arith, l .inv), omega (arith, l .inv), g)
 
 same-length : tie.Need-same-length Inv-loop μ-loop

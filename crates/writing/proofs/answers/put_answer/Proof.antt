@@ -45,10 +45,10 @@ returns c =
     let a = c .before .before .before .before .before .before .before .before .before .before .args in
     let p = c .before .before .place in
     let k = answer-short (getD (a .answers .now) (a .a) 0) (getD (a .answers .now) (a .a + 1) 0) (getD (a .answers .now) (a .a + 2) 0) in
-    rw (eq-eqb _ 1 (c .before .before .before .before .before .before .before .if1 .taken)) ((p .ensures .0, omega arith), p .ensures .1)
+    rw (eq-eqb _ 1 (c .before .before .before .before .before .before .before .if1 .taken)) (p .ensures .1, (p .ensures .0, omega arith))
 
 place-requires-2 : tie.Need-place-requires-2
-place-requires-2 c κs = fits _ _ 22 0 64 (c .before .before .before .before .pre .0)
+place-requires-2 c κs = fits _ _ _ _ _ (c .before .before .before .before .pre .0)
 
 same-length-2 : tie.Need-same-length-2
 same-length-2 c = search needs
@@ -58,7 +58,7 @@ unfolding answerAt
 returns-2 c =
     let p = c .before .before .place2 in
     let k = answer-short 22 0 64 in
-    rw (ne-eqb _ 1 (c .before .before .before .before .if1 .left)) ((p .ensures .0, omega arith), p .ensures .1)
+    rw (ne-eqb _ 1 (c .before .before .before .before .if1 .left)) (p .ensures .1, (p .ensures .0, omega arith))
 
 pub put-answer-spec : {M : Type 1} → statement M
 put-answer-spec =
