@@ -11,9 +11,9 @@ pub and-both : (x y : Bool) → x && y ≡ true → (x ≡ true) × (y ≡ true)
 and-both true y e = (refl, e)
 and-both false y e = absurd (false≢true e)
 
-pub cond-some : (t : Bool) (m n : ℕ) → cond t (some m) none ≡ some n → (t ≡ true) × (m ≡ n)
-cond-some true m n e = (refl, cc)
-cond-some false m n e = (cc, cc)
+pub cond-some : (t : Bool) (m n : ℕ) → cond t (some m) none ≡ some n → t ≡ true
+cond-some true m n e = refl
+cond-some false m n e = cc
 
 -- a digit's bounds
 pub digit-in : (b : ℕ) → isDigit b ≡ true → (48 ≤ b) × (b ≤ 57)

@@ -6,7 +6,7 @@ use mathlib.Core.List.{List, [], _∷_, _++_, map, append-nil}
 use mathlib.Core.Logic.{_⊎_, inl, inr, ⊎-elim}
 use mathlib.Core.Option.{Option, none, some}
 use native.Mathlib.Omega.{arith}
-use native.Mathlib.Nat.{add-zero, zero-add}
+use native.Mathlib.Nat.{zero-add}
 use native.Mathlib.Numerals.{add-one}
 use borrow.Author.Tests.{eqb-true, ne-eqb, leb-false, ltb-true, ltb-false}
 use lib.Dec.{leb, ltb, eqb}

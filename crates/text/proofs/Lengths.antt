@@ -11,7 +11,7 @@ use lib.ListN.{length, length-append}
 use Rattle.text.specs.Lines.{onto}
 use Rattle.text.specs.Reading.{fieldsOf, valueOf, both, valuesOf}
 use Rattle.text.specs.Parts.{numbers}
-use Rattle.text.proofs.Values.{readable}
+use Rattle.text.proofs.Values.{ten-bytes}
 
 -- fields, each after a tab
 unfoldable pub afterTabs : List (List ℕ) → List ℕ
@@ -53,7 +53,7 @@ unfolding valuesOf afterTabs
 short-fields [] ns e = omega arith
 short-fields (f ∷ fs) ns e =
     let h = both-some (valueOf f) (valuesOf fs) ns e in
-    let r = (readable f (h .head) (h .first)) .ten-bytes in
+    let r = ten-bytes f (h .head) (h .first) in
     let i = short-fields fs (h .tail) (h .others) in
     let l = ap length (h .all) in
     let a = length-append f (afterTabs fs) in

@@ -101,31 +101,15 @@ unfolding valueOf
 value-some f h p u k =
     rw (le-leb 1 (length f) h, le-leb (length f) 10 (at-most-ten f p u k), p, u, le-leb (spelled 0 f) 4294967295 k)
 
--- what a readable field is
-pub record Readable (f : List ℕ) (n : ℕ) : Type 0 where
-  pub some-bytes : 1 ≤ length f
-  pub ten-bytes : length f ≤ 10
-  pub are-digits : allDigits f ≡ true
-  pub no-zero : unpadded f ≡ true
-  pub spell : spelled 0 f ≡ n
-  pub small : n ≤ 4294967295
-
-pub readable : (f : List ℕ) (n : ℕ) → valueOf f ≡ some n → Readable f n
+-- a readable field has at most ten bytes
+pub ten-bytes : (f : List ℕ) (n : ℕ) → valueOf f ≡ some n → length f ≤ 10
 unfolding valueOf
-readable f n e =
+ten-bytes f n e =
     let a = cond-some _ _ _ e in
-    let b = and-both (leb 1 (length f) && leb (length f) 10 && allDigits f && unpadded f) (leb (spelled 0 f) 4294967295) (a .0) in
+    let b = and-both (leb 1 (length f) && leb (length f) 10 && allDigits f && unpadded f) (leb (spelled 0 f) 4294967295) a in
     let c = and-both (leb 1 (length f) && leb (length f) 10 && allDigits f) (unpadded f) (b .0) in
     let d = and-both (leb 1 (length f) && leb (length f) 10) (allDigits f) (c .0) in
-    let g = and-both (leb 1 (length f)) (leb (length f) 10) (d .0) in
-    record {
-      some-bytes = leb-true 1 (length f) (g .0);
-      ten-bytes = leb-true (length f) 10 (g .1);
-      are-digits = d .1;
-      no-zero = c .1;
-      spell = a .1;
-      small = subst (λ (k : ℕ). k ≤ 4294967295) (a .1) (leb-true (spelled 0 f) 4294967295 (b .1));
-    }
+    leb-true (length f) 10 (and-both (leb 1 (length f)) (leb (length f) 10) (d .0) .1)
 
 -- ---- fields that are not readable
 

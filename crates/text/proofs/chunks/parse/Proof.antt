@@ -1,7 +1,7 @@
 use Prim.Native.Nat.{min, _-_, _*_, _≤_, _<_}
 use mathlib.Core.Path.{_≡_, refl, ap, _∙_}
 use native.Mathlib.Omega.{arith}
-use lib.ListN.{length, length-set}
+use lib.ListN.{length}
 use Rattle.text.specs.Chunks.{room}
 use Rattle.text.proofs.Events.{Going, going-start, both-less, going-on, going-stop}
 use borrow.Author.Needs.{needs}

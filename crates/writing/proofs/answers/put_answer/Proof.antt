@@ -3,7 +3,6 @@ use native.Mathlib.Omega.{arith}
 use lib.ListN.{getD}
 use borrow.Author.Needs.{needs}
 use borrow.Author.Tests.{eq-eqb, ne-eqb}
-use Rattle.writing.specs.Writing.{answerText}
 use Rattle.writing.specs.Parts.{answerAt}
 use Rattle.writing.proofs.Puts.{answer-short, fits}
 use Rattle.writing.proofs.answers.put_answer.Statement.{statement}
