@@ -1,20 +1,23 @@
 -- A run over the lines of a chunk. Assumes nothing.
 use Prim.Native.Nat.{ℕ, suc, _+_, _-_, _≤_, _<_}
-use mathlib.Core.Path.{_≡_, refl, sym, ap, _∙_}
-use mathlib.Core.Bool.{Bool, true, false, cond}
+use mathlib.Core.Path.{_≡_, refl, sym, ap, subst, _∙_}
+use mathlib.Core.Bool.{Bool, true, false, cond, _&&_}
 use mathlib.Core.List.{List, [], _∷_, _++_, map, append-nil}
+use mathlib.Core.Logic.{_⊎_, inl, inr, ⊎-elim}
 use mathlib.Core.Option.{Option, none, some}
 use native.Mathlib.Omega.{arith}
-use native.Mathlib.Nat.{add-zero, zero-add}
+use native.Mathlib.Nat.{zero-add}
 use native.Mathlib.Numerals.{add-one}
-use borrow.Author.Tests.{eq-eqb, ne-eqb, leb-false}
-use lib.Dec.{leb}
+use borrow.Author.Tests.{eqb-true, ne-eqb, leb-false, ltb-true, ltb-false}
+use lib.Dec.{leb, ltb, eqb}
 use lib.ListN.{length, take, drop, set, replicate, length-append, drop-of-length-le}
 use lib.Seq.{sets, sets-eq, take-nil, drop-drop}
 use Rattle.text.specs.declared.reading.Taken.{Taken}
 use Rattle.text.specs.Lines.{linesOf, firstLine, passed, passedBy}
 use Rattle.text.specs.Reading.{numbersOf, exactly, unread, packed, takenAt}
 use Rattle.text.specs.Chunks.{known, isKnown, eventIn, markOf, wordsIn, Parses}
+use Rattle.text.specs.Parts.{eventWords, eventMark}
+use Rattle.text.proofs.Bools.{and-both}
 use Rattle.text.proofs.Stores.{sets-append}
 use Rattle.text.proofs.Lines.{lines-at, passed-nil}
 
@@ -26,42 +29,30 @@ full ns e =
     let k : 0 + length ns ≡ 8 = omega arith in
     sym (sets-eq ns (replicate 8 0) 0 (omega arith) ∙ ap (λ (j : ℕ). ns ++ drop j (replicate 8 0)) k ∙ append-nil ns)
 
--- what is put for an event, and for another line
-record Event (o : Option (List ℕ)) (r : Taken) : Type 0 where
-  words : known (exactly 8 o) ≡ r .words
-  eight : length (known (exactly 8 o)) ≡ 8
-  mark : isKnown (exactly 8 o) ≡ 1
-
-record Other (o : Option (List ℕ)) : Type 0 where
-  words : known (exactly 8 o) ≡ []
-  mark : isKnown (exactly 8 o) ≡ 0
-
 abbrev filled : List ℕ → ℕ → Taken
 filled ns next = record { count = length ns; words = sets (replicate 8 0) 0 ns; next = next }
 
-event-some : (ns : List ℕ) (next : ℕ) (t : Bool) → leb (length ns) 8 ≡ t
-    → (cond t (filled ns next) (unread next)) .count ≡ 8 → Event (some ns) (cond t (filled ns next) (unread next))
-event-some ns next true b e =
-    let q = eq-eqb (length ns) 8 e in
-    record { words = rw q (full ns e); eight = rw q e; mark = rw q }
-event-some ns next false b e = absurd (omega arith)
+-- the words and the mark of a line are those of what it was read as
+record Read (o : Option (List ℕ)) (r : Taken) : Type 0 where
+  words : known (exactly 8 o) ≡ eventWords (r .count) (r .words)
+  mark : isKnown (exactly 8 o) ≡ eventMark (r .count)
 
-event-any : (o : Option (List ℕ)) (next : ℕ) → (packed o next) .count ≡ 8 → Event o (packed o next)
-unfolding packed
-event-any none next e = absurd (omega arith)
-event-any (some ns) next e = event-some ns next (leb (length ns) 8) refl e
+eight : (ns : List ℕ) (t : Bool) → eqb (length ns) 8 ≡ t
+    → (known (cond t (some ns) none) ≡ cond t (sets (replicate 8 0) 0 ns) []) × (isKnown (cond t (some ns) none) ≡ cond t 1 0)
+eight ns true e = (full ns (eqb-true (length ns) 8 e), refl)
+eight ns false e = (refl, refl)
 
-other-some : (ns : List ℕ) (next : ℕ) (t : Bool) → leb (length ns) 8 ≡ t
-    → ((cond t (filled ns next) (unread next)) .count ≡ 8 → ⊥) → Other (some ns)
-other-some ns next true b e = let q = ne-eqb (length ns) 8 e in record { words = rw q; mark = rw q }
-other-some ns next false b e =
+read-some : (ns : List ℕ) (next : ℕ) (t : Bool) → leb (length ns) 8 ≡ t → Read (some ns) (cond t (filled ns next) (unread next))
+unfolding eventWords eventMark
+read-some ns next true b = let p = eight ns (eqb (length ns) 8) refl in record { words = p .0; mark = p .1 }
+read-some ns next false b =
     let q = ne-eqb (length ns) 8 (λ z. let h = leb-false (length ns) 8 b in omega arith) in
     record { words = rw q; mark = rw q }
 
-other-any : (o : Option (List ℕ)) (next : ℕ) → ((packed o next) .count ≡ 8 → ⊥) → Other o
-unfolding packed
-other-any none next e = record { words = refl; mark = refl }
-other-any (some ns) next e = other-some ns next (leb (length ns) 8) refl e
+read-any : (o : Option (List ℕ)) (next : ℕ) → Read o (packed o next)
+unfolding packed eventWords eventMark
+read-any none next = record { words = refl; mark = refl }
+read-any (some ns) next = read-some ns next (leb (length ns) 8) refl
 
 next-either : (t : Bool) (ns : List ℕ) (next : ℕ) → (cond t (filled ns next) (unread next)) .next ≡ next
 next-either true ns next = refl
@@ -73,6 +64,16 @@ next-any none next = refl
 next-any (some ns) next = next-either (leb (length ns) 8) ns next
 
 -- ---- a run
+
+pub both-less : (a b c d : ℕ) → ltb a b && ltb c d ≡ true → (a < b) × (c < d)
+both-less a b c d e = let h = and-both (ltb a b) (ltb c d) e in (ltb-true a b (h .0), ltb-true c d (h .1))
+
+not-less : (a b c d : ℕ) → ltb a b && ltb c d ≡ false → (b ≤ a) ⊎ (d ≤ c)
+not-less a b c d e = either (ltb a b) refl e
+  where
+    either : (t : Bool) → ltb a b ≡ t → t && ltb c d ≡ false → (b ≤ a) ⊎ (d ≤ c)
+    either true p q = inr (ltb-false c d q)
+    either false p q = inl (ltb-false a b p)
 
 -- the lines that are left
 abbrev leftOf : List ℕ → ℕ → ℕ → ℕ → List (List ℕ)
@@ -127,26 +128,27 @@ module _ (s words₀ marks₀ : List ℕ) (most i j at : ℕ) (words marks : Lis
             ∙ g .marked;
       }
 
-  -- an event is read
-  pub going-event : i < length s → j < most → (r : Taken) (words′ : List ℕ) → r ≡ takenAt s i → r .count ≡ 8 → words′ ≡ sets words at (r .words)
-      → Going s words₀ marks₀ most (r .next) (j + 1) (at + 8) words′ (set marks j 1)
-  unfolding takenAt eventIn markOf
-  going-event h k r words′ e c w =
-      let o = numbersOf (firstLine (drop i s)) in
-      let n = i + passed (drop i s) in
-      let x = event-any o n (sym (ap (λ (q : Taken). q .count) e) ∙ c) in
-      let y : sets words at (known (exactly 8 o)) ≡ words′ = ap (sets words at) (x .words ∙ sym (ap (λ (q : Taken). q .words) e)) ∙ sym w in
-      rw (y, x .eight, x .mark, ← next-any o n, ← ap (λ (q : Taken). q .next) e) at (going-line h k)
+  abbrev Next : Taken → Type 0
+  Next r =
+      Going s words₀ marks₀ most (r .next) (j + 1) (at + length (eventWords (r .count) (r .words)))
+      (sets words at (eventWords (r .count) (r .words)))
+      (set marks j (eventMark (r .count)))
 
-  -- another line is read
-  pub going-other : i < length s → j < most → (r : Taken) → r ≡ takenAt s i → (r .count ≡ 8 → ⊥)
-      → Going s words₀ marks₀ most (r .next) (j + 1) at words (set marks j 0)
+  next-taken : i < length s → j < most → Next (takenAt s i)
   unfolding takenAt eventIn markOf
-  going-other h k r e c =
+  next-taken h k =
       let o = numbersOf (firstLine (drop i s)) in
       let n = i + passed (drop i s) in
-      let x = other-any o n (λ z. c (ap (λ (q : Taken). q .count) e ∙ z)) in
-      rw (x .words, x .mark, ← next-any o n, ← ap (λ (q : Taken). q .next) e, add-zero at) at (going-line h k)
+      let x = read-any o n in
+      rw (next-any o n) (rw (x .words, x .mark) at (going-line h k))
+
+  -- what was read is put
+  pub going-on : i < length s → j < most → (r : Taken) (m : ℕ) (words′ marks′ : List ℕ) → r ≡ takenAt s i
+      → m ≡ length (eventWords (r .count) (r .words))
+      → words′ ≡ sets words at (eventWords (r .count) (r .words))
+      → marks′ ≡ set marks j (eventMark (r .count))
+      → Going s words₀ marks₀ most (r .next) (j + 1) (at + m) words′ marks′
+  going-on h k r m words′ marks′ e a b c = rw (a, b, c) (subst Next (sym e) (next-taken h k))
 
   -- the run ends
   going-end : leftOf s most i j ≡ [] → passedBy (most - j) (drop i s) ≡ 0
@@ -161,12 +163,16 @@ module _ (s words₀ marks₀ : List ℕ) (most i j at : ℕ) (words marks : Lis
         marked = rw l at (g .marked);
       }
 
-  pub going-full : most ≤ j → Parses s most words₀ marks₀ words marks (record { lines = j; words = at; next = i })
+  going-full : most ≤ j → Parses s most words₀ marks₀ words marks (record { lines = j; words = at; next = i })
   unfolding passedBy
   going-full h =
       let z : most - j ≡ 0 = omega arith in
       going-end (rw z) (rw z)
 
-  pub going-none : length s ≤ i → Parses s most words₀ marks₀ words marks (record { lines = j; words = at; next = i })
+  going-none : length s ≤ i → Parses s most words₀ marks₀ words marks (record { lines = j; words = at; next = i })
   unfolding linesOf
   going-none h = going-end (rw (drop-of-length-le s h) (take-nil (most - j))) (rw (drop-of-length-le s h) (passed-nil (most - j)))
+
+  -- the room or the input is used up
+  pub going-stop : ltb j most && ltb i (length s) ≡ false → Parses s most words₀ marks₀ words marks (record { lines = j; words = at; next = i })
+  going-stop e = ⊎-elim going-full going-none (not-less j most i (length s) e)

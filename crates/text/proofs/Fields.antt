@@ -9,7 +9,7 @@ use borrow.Author.Tests.{ne-eqb}
 use lib.Dec.{eqb}
 use Rattle.text.specs.Reading.{fieldsOf, isDigit, allDigits, valueOf, both, valuesOf}
 use Rattle.text.specs.Parts.{numbers}
-use Rattle.text.proofs.Bools.{and-true, digit-in}
+use Rattle.text.proofs.Bools.{and-both, digit-in}
 
 -- a line has a first field
 record First (u : List ℕ) : Type 0 where
@@ -31,7 +31,7 @@ longer : (f u g : List ℕ) (gs : List (List ℕ)) → allDigits f ≡ true → 
 unfolding fieldsOf allDigits
 longer [] u g gs p e = e
 longer (b ∷ f) u g gs p e =
-    let h = and-true (isDigit b) (allDigits f) p in
+    let h = and-both (isDigit b) (allDigits f) p in
     let d = digit-in b (h .0) in
     rw (ne-eqb b 9 (omega arith), longer f u g gs (h .1) e)
 

@@ -11,29 +11,29 @@ use lib.ListN.{length, length-append}
 use Rattle.text.specs.Lines.{onto}
 use Rattle.text.specs.Reading.{fieldsOf, valueOf, both, valuesOf}
 use Rattle.text.specs.Parts.{numbers}
-use Rattle.text.proofs.Values.{readable}
+use Rattle.text.proofs.Values.{ten-bytes}
 
 -- fields, each after a tab
-unfoldable pub tabbed : List (List ℕ) → List ℕ
-tabbed [] = []
-tabbed (f ∷ fs) = 9 ∷ (f ++ tabbed fs)
+unfoldable pub afterTabs : List (List ℕ) → List ℕ
+afterTabs [] = []
+afterTabs (f ∷ fs) = 9 ∷ (f ++ afterTabs fs)
 
-tabbed-onto : (b : ℕ) (fs : List (List ℕ)) (s : List ℕ) → tabbed fs ≡ 9 ∷ s → tabbed (onto b fs) ≡ 9 ∷ (b ∷ s)
-unfolding tabbed
-tabbed-onto b [] s e = let z : _≡_ {A = ℕ} 0 1 = cc in absurd (omega arith)
-tabbed-onto b (f ∷ fs) s e = let h : f ++ tabbed fs ≡ s = cc in rw h
+tabs-onto : (b : ℕ) (fs : List (List ℕ)) (s : List ℕ) → afterTabs fs ≡ 9 ∷ s → afterTabs (onto b fs) ≡ 9 ∷ (b ∷ s)
+unfolding afterTabs
+tabs-onto b [] s e = let z : _≡_ {A = ℕ} 0 1 = cc in absurd (omega arith)
+tabs-onto b (f ∷ fs) s e = let h : f ++ afterTabs fs ≡ s = cc in rw h
 
-tab-cons : (b : ℕ) (s : List ℕ) (t : Bool) → eqb b 9 ≡ t → tabbed (fieldsOf s) ≡ 9 ∷ s
-    → tabbed (cond t ([] ∷ fieldsOf s) (onto b (fieldsOf s))) ≡ 9 ∷ (b ∷ s)
-unfolding tabbed
+tab-cons : (b : ℕ) (s : List ℕ) (t : Bool) → eqb b 9 ≡ t → afterTabs (fieldsOf s) ≡ 9 ∷ s
+    → afterTabs (cond t ([] ∷ fieldsOf s) (onto b (fieldsOf s))) ≡ 9 ∷ (b ∷ s)
+unfolding afterTabs
 tab-cons b s true e h = rw (eqb-true b 9 e, h)
-tab-cons b s false e h = tabbed-onto b (fieldsOf s) s h
+tab-cons b s false e h = tabs-onto b (fieldsOf s) s h
 
 -- a line's fields are all of it
-pub tabbed-fields : (s : List ℕ) → tabbed (fieldsOf s) ≡ 9 ∷ s
-unfolding tabbed fieldsOf
-tabbed-fields [] = refl
-tabbed-fields (b ∷ s) = tab-cons b s (eqb b 9) refl (tabbed-fields s)
+pub tabs-fields : (s : List ℕ) → afterTabs (fieldsOf s) ≡ 9 ∷ s
+unfolding afterTabs fieldsOf
+tabs-fields [] = refl
+tabs-fields (b ∷ s) = tab-cons b s (eqb b 9) refl (tabs-fields s)
 
 -- the first of readable numbers
 pub record Both (x : Option ℕ) (o : Option (List ℕ)) (ns : List ℕ) : Type 0 where
@@ -48,16 +48,16 @@ both-some none o ns e = let z : _≡_ {A = ℕ} 0 1 = cc in absurd (omega arith)
 both-some (some n) none ns e = let z : _≡_ {A = ℕ} 0 1 = cc in absurd (omega arith)
 both-some (some n) (some ms) ns e = record { head = n; tail = ms; first = refl; others = refl; all = (cc) }
 
-short-fields : (fs : List (List ℕ)) (ns : List ℕ) → valuesOf fs ≡ some ns → length (tabbed fs) ≤ 11 * length ns
-unfolding valuesOf tabbed
+short-fields : (fs : List (List ℕ)) (ns : List ℕ) → valuesOf fs ≡ some ns → length (afterTabs fs) ≤ 11 * length ns
+unfolding valuesOf afterTabs
 short-fields [] ns e = omega arith
 short-fields (f ∷ fs) ns e =
     let h = both-some (valueOf f) (valuesOf fs) ns e in
-    let r = (readable f (h .head) (h .first)) .ten-bytes in
+    let r = ten-bytes f (h .head) (h .first) in
     let i = short-fields fs (h .tail) (h .others) in
     let l = ap length (h .all) in
-    let a = length-append f (tabbed fs) in
+    let a = length-append f (afterTabs fs) in
     omega arith
 
 pub short-line : (l ns : List ℕ) → numbers l ≡ some ns → length l < 11 * length ns
-short-line l ns e = let a = short-fields (fieldsOf l) ns e in let b = ap length (tabbed-fields l) in omega arith
+short-line l ns e = let a = short-fields (fieldsOf l) ns e in let b = ap length (tabs-fields l) in omega arith

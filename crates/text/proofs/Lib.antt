@@ -7,7 +7,5 @@ pub mod Runs
 pub mod Takes
 pub mod Plain
 pub mod Stores
-pub mod Decimals
-pub mod Answers
 pub mod Events
 pub mod Laws

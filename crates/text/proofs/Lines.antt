@@ -11,7 +11,7 @@ use lib.ListN.{length, getD, drop, length-drop, drop-of-length-le, List·getD-eq
 use lib.Seq.{drop-cons, drop-drop, drop-append-add}
 use Rattle.text.specs.Lines.{onto, linesOf, firstLine, passed, passedBy}
 use Rattle.text.specs.Reading.{isDigit, allDigits}
-use Rattle.text.proofs.Bools.{and-true, digit-in}
+use Rattle.text.proofs.Bools.{and-both, digit-in}
 
 module _ (s : List ℕ) (i : ℕ) (h : i < length s) where
   pub passed-end : getD s i 0 ≡ 10 → passed (drop i s) ≡ 1
@@ -68,14 +68,14 @@ pub free-append : (x : ℕ) (f g : List ℕ) → free x f ≡ true → free x g 
 unfolding free
 free-append x [] g p q = q
 free-append x (b ∷ f) g p q =
-    let h = and-true (not (eqb b x)) (free x f) p in
+    let h = and-both (not (eqb b x)) (free x f) p in
     rw (h .0) (free-append x f g (h .1) q)
 
 pub free-digits : (x : ℕ) (f : List ℕ) → x < 48 → allDigits f ≡ true → free x f ≡ true
 unfolding free allDigits
 free-digits x [] k p = refl
 free-digits x (b ∷ f) k p =
-    let h = and-true (isDigit b) (allDigits f) p in
+    let h = and-both (isDigit b) (allDigits f) p in
     let d = digit-in b (h .0) in
     rw (ne-eqb b x (omega arith)) (free-digits x f k (h .1))
 
@@ -83,14 +83,14 @@ pub first-free : (f u : List ℕ) → free 10 f ≡ true → firstLine (f ++ u) 
 unfolding firstLine free
 first-free [] u p = refl
 first-free (b ∷ f) u p =
-    let h = and-true (not (eqb b 10)) (free 10 f) p in
+    let h = and-both (not (eqb b 10)) (free 10 f) p in
     rw (not-true (eqb b 10) (h .0), first-free f u (h .1))
 
 pub passed-free : (f u : List ℕ) → free 10 f ≡ true → passed (f ++ u) ≡ length f + passed u
 unfolding passed free
 passed-free [] u p = omega arith
 passed-free (b ∷ f) u p =
-    let h = and-true (not (eqb b 10)) (free 10 f) p in
+    let h = and-both (not (eqb b 10)) (free 10 f) p in
     rw (not-true (eqb b 10) (h .0), passed-free f u (h .1)) (omega arith)
 
 -- ---- the first line, and those after it

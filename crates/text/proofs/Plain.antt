@@ -11,7 +11,7 @@ use lib.Dec.{eqb}
 use lib.ListN.{length, getD}
 use Rattle.text.specs.Reading.{isDigit, takenAt}
 use Rattle.text.specs.Parts.{oneDigit, tabbed, plainLine, wordsTo}
-use Rattle.text.proofs.Bools.{and-true, digit-in}
+use Rattle.text.proofs.Bools.{and-both, digit-in}
 use Rattle.text.proofs.Lines.{byte-in}
 use Rattle.text.proofs.Runs.{found-one}
 use Rattle.text.proofs.Takes.{Left, left-start, left-short, left-end, ends-here}
@@ -24,7 +24,7 @@ record Digit (s : List ℕ) (i end : ℕ) : Type 0 where
 
 digit-there : (s : List ℕ) (i end : ℕ) → oneDigit s i end ≡ true → Digit s i end
 digit-there s i end e =
-    let p = and-true (eqb (getD s (i + 1) 0) end) (isDigit (getD s i 0)) e in
+    let p = and-both (eqb (getD s (i + 1) 0) end) (isDigit (getD s i 0)) e in
     let d = digit-in (getD s i 0) (p .1) in
     record { digit = p .1; spell = omega arith; after = eqb-true _ _ (p .0) }
 
@@ -33,7 +33,7 @@ left-fields : (s : List ℕ) (from k : ℕ) → from + 2 * k ≤ length s → ta
 unfolding tabbed wordsTo
 left-fields s from zero h e = rw (add-zero from) (left-start s from)
 left-fields s from (suc k) h e =
-    let p = and-true (tabbed k s from) (oneDigit s (from + 2 * k) 9) e in
+    let p = and-both (tabbed k s from) (oneDigit s (from + 2 * k) 9) e in
     let d = digit-there s (from + 2 * k) 9 (p .1) in
     let z : from + 2 * k + 2 ≡ from + 2 * suc k = omega arith in
     rw (z, add-one k)
@@ -46,7 +46,7 @@ pub plain-taken : (s : List ℕ) (from : ℕ) → from + 16 ≤ length s → pla
     → record { count = 8; words = wordsTo 8 s from; next = from + 16 } ≡ takenAt s from
 unfolding plainLine wordsTo
 plain-taken s from h e =
-    let p = and-true (tabbed 7 s from) (oneDigit s (from + 14) 10) e in
+    let p = and-both (tabbed 7 s from) (oneDigit s (from + 14) 10) e in
     let d = digit-there s (from + 14) 10 (p .1) in
     let k : from + 14 + 1 < length s = omega arith in
     let z : from + 16 ≡ from + 14 + 1 + 1 = omega arith in

@@ -1,7 +1,7 @@
 -- Digits from a place on, and the number of the field there. Assumes nothing.
 use Prim.Native.Nat.{ℕ, _+_, _-_, _*_, _≤_, _<_}
-use mathlib.Core.Path.{_≡_, refl, sym, ap, subst, _∙_}
-use mathlib.Core.Bool.{Bool, true, false}
+use mathlib.Core.Path.{_≡_, refl, sym, ap, subst, subst₂, _∙_}
+use mathlib.Core.Bool.{Bool, true, false, true≢false}
 use mathlib.Core.List.{List, [], _∷_, _++_, append-assoc}
 use mathlib.Core.Option.{none, some}
 use native.Mathlib.Omega.{arith}
@@ -9,13 +9,13 @@ use native.Mathlib.Nat.{add-zero, zero-add}
 use native.Mathlib.Numerals.{add-one}
 use borrow.Author.Tests.{eqb-true, eqb-false, leb-true, leb-false}
 use lib.Dec.{eqb, leb}
-use lib.ListN.{length, getD, drop, length-append, List·getD-append}
+use lib.ListN.{length, getD, drop, length-append, length-drop, List·getD-append}
 use lib.Seq.{drop-cons, getD-drop}
 use Rattle.text.specs.declared.numbers.Run.{Run}
 use Rattle.text.specs.Lines.{firstLine, passed}
 use Rattle.text.specs.Reading.{fieldsOf, isDigit, allDigits, unpadded, spelled, valueOf, valuesOf}
 use Rattle.text.specs.Parts.{Digits, Stops, Runs, numbers, Found}
-use Rattle.text.proofs.Bools.{not-both, digit-in}
+use Rattle.text.proofs.Bools.{digit-in}
 use Rattle.text.proofs.Values.{spelled-snoc, all-snoc, unpadded-lead, unpadded-one, value-some, no-digit, too-large, padded}
 use Rattle.text.proofs.Fields.{numbers-none, numbers-other}
 use Rattle.text.proofs.Lines.{first-here, first-end, first-none, free, free-digits, first-free, passed-free}
@@ -47,6 +47,14 @@ module _ (s : List ℕ) (from end v : ℕ) (d : Digits s from end v) where
 
   pub passed-here : from + passed (drop from s) ≡ end + passed (drop end s)
   passed-here = let p = ap passed (d .here) ∙ passed-free (d .text) (drop end s) no-feed in let l = d .long in omega arith
+
+  -- digits stand within the input
+  pub within : from < end → from < length s
+  within h =
+      let l = d .long in
+      let e = ap length (d .here) ∙ length-append (d .text) (drop end s) in
+      let k = length-drop from s in
+      omega arith
 
   -- the first of them
   lead : from < end → getD (d .text) 0 0 ≡ getD s from 0
@@ -123,17 +131,35 @@ module _ (s : List ℕ) (from : ℕ) where
   pub found-end : length s ≤ from → Found s from (record { value = 0; end = from; after = 0 })
   found-end h = found-none s from (no-digits s from _ _ refl refl (λ k d. absurd (omega arith)))
 
-  pub found-other : isDigit (getD s from 0) ≡ false → Found s from (record { value = 0; end = from; after = 0 })
-  found-other e = found-none s from (no-digits s from _ _ refl refl (λ k d. absurd (not-both _ d e)))
+  module _ (r : Run) (g : Runs s from r) where
+    pub found-large : 4294967295 < r .value → Found s from (record { value = 0; end = from; after = 0 })
+    found-large h = found-none s from (large s from (r .end) (r .value) (g .run) h)
 
-  pub found-large : (r : Run) → Runs s from r → 4294967295 < r .value → Found s from (record { value = 0; end = from; after = 0 })
-  found-large r g h = found-none s from (large s from (r .end) (r .value) (g .run) h)
+    pub found-zero : 1 < r .end - from → getD s from 0 ≡ 48 → Found s from (record { value = 0; end = from; after = 0 })
+    found-zero h z = found-none s from (zero-led s from (r .end) (r .value) (g .run) h z)
 
+    -- they end where they begin
+    no-run : r .end ≡ from → numbers (firstLine (drop from s)) ≡ none
+    no-run z =
+        let v = nothing (g .run .text) (r .value) (g .run .spell) (let l = g .run .long in omega arith) in
+        no-digits s from _ _ refl refl (subst₂ (Stops s) z v (g .stop))
+
+    pub found-run : r .value ≤ 4294967295 → (1 < r .end - from → getD s from 0 ≡ 48 → ⊥)
+        → Found s from (record { value = r .value; end = r .end; after = r .after })
+    found-run k n =
+        record {
+          run = g .run;
+          refused = no-run;
+          value = λ l. field-value s from (r .end) (r .value) (g .run) l k n;
+          after = λ l. g .after;
+          stop = λ l. g .stop;
+        }
+
+  -- one digit
   module _ (h : from < length s) (d : isDigit (getD s from 0) ≡ true) where
     one : Digits s from (from + 1) (getD s from 0 - 48)
     one = subst (Digits s from (from + 1)) (zero-add (getD s from 0 - 48)) (digits-more s from from 0 (digits-none s from) h d)
 
-    -- one digit
     pub found-one : (b : ℕ) → b ≡ getD s (from + 1) 10 → (from + 1 < length s → isDigit (getD s (from + 1) 0) ≡ false)
         → Found s from (record { value = getD s from 0 - 48; end = from + 1; after = b })
     found-one b a n =
@@ -143,28 +169,5 @@ module _ (s : List ℕ) (from : ℕ) where
           refused = λ z. absurd (omega arith);
           value = λ l. field-value s from (from + 1) (getD s from 0 - 48) one l (omega arith) (λ m. absurd (omega arith));
           after = λ l. a;
-          stop = λ l m e. absurd (not-both _ e (n m));
+          stop = λ l m e. absurd (true≢false (sym e ∙ n m));
         }
-
-    -- a zero and a further digit
-    pub found-zero : from + 1 < length s → isDigit (getD s (from + 1) 0) ≡ true → getD s from 0 ≡ 48
-        → Found s from (record { value = 0; end = from; after = 0 })
-    found-zero m e z =
-        let two = digits-more s from (from + 1) (getD s from 0 - 48) one m e in
-        found-none s from (zero-led s from (from + 1 + 1) _ two (omega arith) z)
-
-  -- more digits, the first no zero
-  pub found-more : from < length s → isDigit (getD s from 0) ≡ true → (getD s from 0 ≡ 48 → ⊥) → (r : Run) → Runs s from r → r .value ≤ 4294967295
-      → Found s from (record { value = r .value; end = r .end; after = r .after })
-  found-more h d n r g k =
-      record {
-        run = g .run;
-        refused = λ z.
-            absurd
-            (let v = nothing (g .run .text) (r .value) (g .run .spell) (let l = g .run .long in omega arith) in
-            let b = subst (λ (e : ℕ). Stops s e (r .value)) z (g .stop) h d in
-            omega arith);
-        value = λ l. field-value s from (r .end) (r .value) (g .run) l k (λ m. n);
-        after = λ l. g .after;
-        stop = λ l. g .stop;
-      }

@@ -1,7 +1,7 @@
 -- Reading a line field by field. Assumes nothing.
 use Prim.Native.Nat.{ℕ, suc, _+_, _≤_, _<_}
 use mathlib.Core.Path.{_≡_, refl, sym, ap, _∙_}
-use mathlib.Core.Bool.{Bool, true, false, cond}
+use mathlib.Core.Bool.{Bool, true, false, cond, false≢true}
 use mathlib.Core.List.{List, [], _∷_, _++_}
 use mathlib.Core.Option.{Option, none, some}
 use native.Mathlib.Omega.{arith}
@@ -16,7 +16,6 @@ use Rattle.text.specs.declared.reading.Taken.{Taken}
 use Rattle.text.specs.Lines.{firstLine, passed}
 use Rattle.text.specs.Reading.{isDigit, valueOf, both, numbersOf, unread, packed, takenAt}
 use Rattle.text.specs.Parts.{numbers, Found, Short, finished}
-use Rattle.text.proofs.Bools.{not-both}
 use Rattle.text.proofs.Values.{no-digit, too-large, spelled-snoc}
 use Rattle.text.proofs.Fields.{numbers-last, numbers-tab, numbers-other}
 use Rattle.text.proofs.Lines.{byte-in, tab-in, first-here, first-end, first-none, passed-more, passed-end, passed-none}
@@ -24,23 +23,23 @@ use Rattle.text.proofs.Runs.{line-here, passed-here, found-one}
 use Rattle.text.proofs.Lengths.{short-line}
 
 -- what a reader that has count numbers in words hands back, where those of the rest are given
-unfoldable pub finish : ℕ → List ℕ → Option (List ℕ) → ℕ → Taken
-finish count words none next = unread next
-finish count words (some ns) next =
+unfoldable pub withRest : ℕ → List ℕ → Option (List ℕ) → ℕ → Taken
+withRest count words none next = unread next
+withRest count words (some ns) next =
     cond (leb (count + length ns) 8) (record { count = count + length ns; words = sets words count ns; next = next }) (unread next)
 
-finish-both : (count : ℕ) (words : List ℕ) (v : ℕ) (o : Option (List ℕ)) (next : ℕ) →
-    finish count words (both (some v) o) next ≡ finish (count + 1) (set words count v) o next
-unfolding finish
-finish-both count words v none next = refl
-finish-both count words v (some ns) next =
+rest-both : (count : ℕ) (words : List ℕ) (v : ℕ) (o : Option (List ℕ)) (next : ℕ) →
+    withRest count words (both (some v) o) next ≡ withRest (count + 1) (set words count v) o next
+unfolding withRest
+rest-both count words v none next = refl
+rest-both count words v (some ns) next =
     let e : count + suc (length ns) ≡ count + 1 + length ns = omega arith in
     rw (e, add-one count)
 
-finish-start : (o : Option (List ℕ)) (next : ℕ) → finish 0 (replicate 8 0) o next ≡ packed o next
-unfolding finish packed
-finish-start none next = refl
-finish-start (some ns) next = rw zero-add
+rest-start : (o : Option (List ℕ)) (next : ℕ) → withRest 0 (replicate 8 0) o next ≡ packed o next
+unfolding withRest packed
+rest-start none next = refl
+rest-start (some ns) next = rw zero-add
 
 -- the length of a line decides nothing
 few : (ns : List ℕ) (t : Bool) (next : ℕ) → (length ns ≤ 8 → t ≡ true) → packed (cond t (some ns) none) next ≡ packed (some ns) next
@@ -50,7 +49,7 @@ few ns false next h =
     rw (lt-leb (length ns) 8 (over (leb (length ns) 8) refl))
   where
     over : (u : Bool) → leb (length ns) 8 ≡ u → 8 < length ns
-    over true e = absurd (not-both false (h (leb-true _ _ e)) refl)
+    over true e = absurd (false≢true (h (leb-true _ _ e)))
     over false e = leb-false _ _ e
 
 any-length : (l : List ℕ) (o : Option (List ℕ)) (next : ℕ) → numbers l ≡ o → packed (cond (leb (length l) 96) o none) next ≡ packed o next
@@ -85,14 +84,14 @@ module _ (s : List ℕ) (end count : ℕ) (words : List ℕ) where
 
 -- at place i, after count numbers in words, what is left gives the line at from
 pub record Left (s : List ℕ) (from i count : ℕ) (words : List ℕ) : Type 0 where
-  pub line : finish count words (numbers (firstLine (drop i s))) (i + passed (drop i s)) ≡ takenAt s from
+  pub line : withRest count words (numbers (firstLine (drop i s))) (i + passed (drop i s)) ≡ takenAt s from
 
 pub left-start : (s : List ℕ) (from : ℕ) → Left s from from 0 (replicate 8 0)
-left-start s from = record { line = finish-start _ _ ∙ taken-is s from }
+left-start s from = record { line = rest-start _ _ ∙ taken-is s from }
 
 -- a line has a field, so after eight there is no room for the numbers of what is left
-over : (count : ℕ) (words l : List ℕ) (o : Option (List ℕ)) (next : ℕ) → 8 ≤ count → numbers l ≡ o → unread next ≡ finish count words o next
-unfolding finish
+over : (count : ℕ) (words l : List ℕ) (o : Option (List ℕ)) (next : ℕ) → 8 ≤ count → numbers l ≡ o → unread next ≡ withRest count words o next
+unfolding withRest
 over count words l none next h e = refl
 over count words l (some ns) next h e = rw (lt-leb (count + length ns) 8 (let k = short-line l ns e in omega arith))
 
@@ -103,7 +102,7 @@ left-over s from i count words left h = over count words (firstLine (drop i s)) 
 module _ (s : List ℕ) (from i count : ℕ) (words : List ℕ) (left : Left s from i count words) (r : Number) (f : Found s i r) where
   -- no number is there
   pub left-none : r .end ≡ i → unread (i + passed (drop i s)) ≡ takenAt s from
-  unfolding finish
+  unfolding withRest
   left-none e = rw (f .refused e) at (left .line)
 
   -- the line after the number
@@ -128,9 +127,9 @@ module _ (s : List ℕ) (from i count : ℕ) (words : List ℕ) (left : Left s f
       rw (line-at, first-here s (r .end) k n, b) (numbers-tab (f .run .text) (r .value) (f .run .all) (f .value h) _) in
       record {
         line =
-            sym (finish-both count words (r .value) _ _)
-            ∙ ap (λ (m : ℕ). finish count words (both (some (r .value)) (numbers (firstLine (drop (r .end + 1) s)))) m) (sym (gone ∙ passed-more s (r .end) k n))
-            ∙ ap (λ (o : Option (List ℕ)). finish count words o (i + passed (drop i s))) (sym e)
+            sym (rest-both count words (r .value) _ _)
+            ∙ ap (λ (m : ℕ). withRest count words (both (some (r .value)) (numbers (firstLine (drop (r .end + 1) s)))) m) (sym (gone ∙ passed-more s (r .end) k n))
+            ∙ ap (λ (o : Option (List ℕ)). withRest count words o (i + passed (drop i s))) (sym e)
             ∙ left .line;
       }
 
@@ -141,7 +140,7 @@ module _ (s : List ℕ) (from i count : ℕ) (words : List ℕ) (left : Left s f
 
   -- the line ends there
   last : i < r .end → count < 8 → after ≡ [] → finished s (r .end) (count + 1) (set words count (r .value)) ≡ takenAt s from
-  unfolding finished finish
+  unfolding finished withRest
   last h m e =
       let n : numbers (firstLine (drop i s)) ≡ some (r .value ∷ []) =
       rw (line-at, e) (numbers-last (f .run .text) (r .value) (f .run .all) (f .value h)) in
@@ -158,7 +157,7 @@ module _ (s : List ℕ) (from i count : ℕ) (words : List ℕ) (left : Left s f
 
   other : i < r .end → (b : ℕ) (u : List ℕ) → after ≡ b ∷ u → (b ≡ 9 → ⊥) → (isDigit b ≡ true → 1000000000 ≤ r .value)
       → (w : List ℕ) → finished s (r .end) (count + 1) w ≡ takenAt s from
-  unfolding finished finish
+  unfolding finished withRest
   other h b u e n k w =
       let z : numbers (firstLine (drop i s)) ≡ none =
       rw (line-at, e) (numbers-other (f .run .text) u b (f .run .all) n (wrong-byte b (isDigit b) refl k)) in

@@ -1,7 +1,7 @@
 -- The number of a field. Assumes nothing.
 use Prim.Native.Nat.{ℕ, suc, _+_, _-_, _*_, _^_, _≤_, _<_}
 use mathlib.Core.Path.{_≡_, refl, sym, ap, subst, _∙_}
-use mathlib.Core.Bool.{Bool, true, false, not, cond, _&&_}
+use mathlib.Core.Bool.{Bool, true, false, not, cond, _&&_, and-false, false≢true}
 use mathlib.Core.List.{List, [], _∷_, _++_}
 use mathlib.Core.Option.{Option, none, some}
 use native.Mathlib.Omega.{arith}
@@ -10,7 +10,7 @@ use borrow.Author.Tests.{leb-true, leb-false, le-leb, lt-leb, eqb-false, ne-eqb}
 use lib.Dec.{leb, eqb}
 use lib.ListN.{length, getD}
 use Rattle.text.specs.Reading.{isDigit, allDigits, unpadded, spelled, valueOf}
-use Rattle.text.proofs.Bools.{and-true, and-false, not-both, digit-in, cond-some}
+use Rattle.text.proofs.Bools.{and-both, digit-in, cond-some}
 
 -- ---- what digits spell
 
@@ -54,7 +54,7 @@ pub all-append : (f g : List ℕ) → allDigits f ≡ true → allDigits (f ++ g
 unfolding allDigits
 all-append [] g p = refl
 all-append (b ∷ f) g p =
-    let h = and-true (isDigit b) (allDigits f) p in
+    let h = and-both (isDigit b) (allDigits f) p in
     rw (h .0, all-append f g (h .1))
 
 pub all-snoc : (f : List ℕ) (c : ℕ) → allDigits f ≡ true → isDigit c ≡ true → allDigits (f ++ (c ∷ [])) ≡ true
@@ -79,7 +79,7 @@ lead-some b [] u d h = absurd (omega arith)
 lead-some b (c ∷ f) u d h = lead (eqb b 48) refl u
   where
     lead : (t : Bool) → eqb b 48 ≡ t → not t ≡ true → 1 ≤ b - 48
-    lead true e u = absurd (not-both false u refl)
+    lead true e u = absurd (false≢true u)
     lead false e u = let k = digit-in b d in let n = eqb-false b 48 e in omega arith
 
 at-most-ten : (f : List ℕ) → allDigits f ≡ true → unpadded f ≡ true → spelled 0 f ≤ 4294967295 → length f ≤ 10
@@ -91,7 +91,7 @@ at-most-ten (b ∷ f) p u k = ten (leb (length f) 9) refl
     ten true e = let h = leb-true (length f) 9 e in omega arith
     ten false e =
         let h = leb-false (length f) 9 e in
-        let d = (and-true (isDigit b) (allDigits f) p) .0 in
+        let d = (and-both (isDigit b) (allDigits f) p) .0 in
         let x = eleven (0 * 10 + (b - 48)) f (let l = lead-some b f u d (omega arith) in omega arith) h in
         absurd (omega arith)
 
@@ -101,31 +101,15 @@ unfolding valueOf
 value-some f h p u k =
     rw (le-leb 1 (length f) h, le-leb (length f) 10 (at-most-ten f p u k), p, u, le-leb (spelled 0 f) 4294967295 k)
 
--- what a readable field is
-pub record Readable (f : List ℕ) (n : ℕ) : Type 0 where
-  pub some-bytes : 1 ≤ length f
-  pub ten-bytes : length f ≤ 10
-  pub are-digits : allDigits f ≡ true
-  pub no-zero : unpadded f ≡ true
-  pub spell : spelled 0 f ≡ n
-  pub small : n ≤ 4294967295
-
-pub readable : (f : List ℕ) (n : ℕ) → valueOf f ≡ some n → Readable f n
+-- a readable field has at most ten bytes
+pub ten-bytes : (f : List ℕ) (n : ℕ) → valueOf f ≡ some n → length f ≤ 10
 unfolding valueOf
-readable f n e =
+ten-bytes f n e =
     let a = cond-some _ _ _ e in
-    let b = and-true (leb 1 (length f) && leb (length f) 10 && allDigits f && unpadded f) (leb (spelled 0 f) 4294967295) (a .0) in
-    let c = and-true (leb 1 (length f) && leb (length f) 10 && allDigits f) (unpadded f) (b .0) in
-    let d = and-true (leb 1 (length f) && leb (length f) 10) (allDigits f) (c .0) in
-    let g = and-true (leb 1 (length f)) (leb (length f) 10) (d .0) in
-    record {
-      some-bytes = leb-true 1 (length f) (g .0);
-      ten-bytes = leb-true (length f) 10 (g .1);
-      are-digits = d .1;
-      no-zero = c .1;
-      spell = a .1;
-      small = subst (λ (k : ℕ). k ≤ 4294967295) (a .1) (leb-true (spelled 0 f) 4294967295 (b .1));
-    }
+    let b = and-both (leb 1 (length f) && leb (length f) 10 && allDigits f && unpadded f) (leb (spelled 0 f) 4294967295) a in
+    let c = and-both (leb 1 (length f) && leb (length f) 10 && allDigits f) (unpadded f) (b .0) in
+    let d = and-both (leb 1 (length f) && leb (length f) 10) (allDigits f) (c .0) in
+    leb-true (length f) 10 (and-both (leb 1 (length f)) (leb (length f) 10) (d .0) .1)
 
 -- ---- fields that are not readable
 

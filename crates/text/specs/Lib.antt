@@ -1,5 +1,4 @@
 pub mod Lines
 pub mod Reading
-pub mod Writing
 pub mod Chunks
 pub mod Parts

@@ -1,8 +1,8 @@
 -- What the private functions state. Assumes nothing.
-use Prim.Native.Nat.{ℕ, zero, suc, _+_, _-_, _*_, _/_, _%_, _<_, _≤_}
+use Prim.Native.Nat.{ℕ, zero, suc, _+_, _-_, _*_, _%_, _<_, _≤_}
 use mathlib.Core.Path.{_≡_}
 use mathlib.Core.Bool.{Bool, true, cond, _&&_}
-use mathlib.Core.List.{List, [], _∷_, _++_}
+use mathlib.Core.List.{List, [], _++_}
 use mathlib.Core.Option.{Option, none, some}
 use lib.Dec.{eqb}
 use lib.ListN.{length, getD, drop, set, replicate}
@@ -43,12 +43,6 @@ pub record Found (s : List ℕ) (from : ℕ) (r : Number) : Type 0 where
   pub after : from < r .end → r .after ≡ getD s (r .end) 10
   pub stop : from < r .end → Stops s (r .end) (r .value)
 
--- two digits stand at a place
-pub record TwoDigits (s : List ℕ) (from : ℕ) : Type 0 where
-  pub within : from + 1 < length s
-  pub first : isDigit (getD s from 0) ≡ true
-  pub second : isDigit (getD s (from + 1) 0) ≡ true
-
 -- a digit and a tab stand at a place, and the digit spells v
 pub record Short (s : List ℕ) (from v : ℕ) : Type 0 where
   pub within : from + 1 < length s
@@ -84,7 +78,9 @@ finished s end count words =
     cond (atEnd (drop end s)) (record { count = count; words = words; next = end + passed (drop end s) })
     (unread (end + passed (drop end s)))
 
--- the last k decimal digits of n
-unfoldable pub digits : ℕ → ℕ → List ℕ
-digits zero n = []
-digits (suc k) n = digits k (n / 10) ++ ((48 + n % 10) ∷ [])
+-- the words of a line of so many numbers, and its mark: eight numbers are an event
+unfoldable pub eventWords : ℕ → List ℕ → List ℕ
+eventWords count w = cond (eqb count 8) w []
+
+unfoldable pub eventMark : ℕ → ℕ
+eventMark count = cond (eqb count 8) 1 0

@@ -1,23 +1,18 @@
-// Many lines at once: events are read into words, answers are written for lines.
+// Many lines at once: events are read into words.
 use crate::reading::take;
-use crate::writing::place;
-ghost use Prim.Native.Nat.{_+_, _≤_, min};
+use crate::sizes::least;
+ghost use Prim.Native.Nat.{_+_, _≤_, _<_};
 ghost use mathlib.Core.Path.{_≡_};
-ghost use lib.ListN.{length};
+ghost use lib.ListN.{length, set};
 ghost use lib.Seq.{sets};
-ghost use Rattle.text.specs.Chunks.{Parses, room, printed, printedCount};
+ghost use Rattle.text.specs.Chunks.{Parses, room};
+ghost use Rattle.text.specs.Parts.{eventWords, eventMark};
 
 // How far a chunk was read: lines, words put, and the place of the next line.
 pub struct Parsed {
     pub lines: usize,
     pub words: usize,
     pub next: usize,
-}
-
-fn least(a: usize, b: usize) -> usize
-    ensures { λ r. ⌜ r ≡ min a b ⌝ }
-{
-    if a < b { a } else { b }
 }
 
 // Puts eight words from place `at` on.
@@ -32,6 +27,29 @@ fn store(dst: &mut [u32], at: usize, w: [u32; 8])
     }
 }
 
+// Puts what a line of so many numbers is: an event's words from place `at` on, and the line's mark. Answers how many words that is.
+fn put_line(
+    words: &mut [u32],
+    at: usize,
+    marks: &mut [u8],
+    line: usize,
+    count: usize,
+    w: [u32; 8],
+) -> usize
+    requires { ⌜ (at + 8 ≤ length (now words)) × (line < length (now marks)) ⌝ }
+    ensures { λ r. ⌜ (r ≡ length (eventWords count w)) × (r ≤ 8) ⌝ }
+    ensures { λ _. ⌜ now (words .exit) ≡ sets (now (words .entry)) at (eventWords count w) ⌝ }
+    ensures { λ _. ⌜ now (marks .exit) ≡ set (now (marks .entry)) line (eventMark count) ⌝ }
+{
+    if count == 8 {
+        store(words, at, w);
+        marks[line] = 1;
+        return 8;
+    }
+    marks[line] = 0;
+    0
+}
+
 // Reads at most `most` lines of `s`, as there is room for them: eight words for each event and a mark for each line.
 pub fn parse(s: &[u8], most: usize, words: &mut [u32], marks: &mut [u8]) -> Parsed
     ensures { λ r. ⌜ Parses (now (s .entry)) (room most (now (words .entry)) (now (marks .entry))) (now (words .entry)) (now (marks .entry)) (now (words .exit)) (now (marks .exit)) r ⌝ }
@@ -42,26 +60,11 @@ pub fn parse(s: &[u8], most: usize, words: &mut [u32], marks: &mut [u8]) -> Pars
     let mut i: usize = 0;
     let mut lines: usize = 0;
     let mut at: usize = 0;
-    while lines < k {
-        if n <= i {
-            return Parsed {
-                lines,
-                words: at,
-                next: i,
-            };
-        }
+    while (lines < k) & (i < n) {
         let t = take(s, i);
-        let count = t.count;
         let w = t.words;
+        at += put_line(words, at, marks, lines, t.count, w);
         i = t.next;
-        if count == 8 {
-            store(words, at, w);
-            at += 8;
-            marks[lines] = 1;
-            lines += 1;
-            continue;
-        }
-        marks[lines] = 0;
         lines += 1;
     }
     Parsed {
@@ -69,33 +72,4 @@ pub fn parse(s: &[u8], most: usize, words: &mut [u32], marks: &mut [u8]) -> Pars
         words: at,
         next: i,
     }
-}
-
-// Puts the answers to lines with these marks at the start of `dst`, and answers how many bytes that is; 0, and nothing is put, where
-// there are not 33 bytes and three words for each line.
-pub fn print(dst: &mut [u8], marks: &[u8], answers: &[u32]) -> usize
-    ensures { λ r. ⌜ r ≡ printedCount (now (dst .entry)) (now (marks .entry)) (now (answers .entry)) ⌝ }
-    ensures { λ _. ⌜ now (dst .exit) ≡ printed (now (dst .entry)) (now (marks .entry)) (now (answers .entry)) ⌝ }
-{
-    let n = marks.len();
-    if dst.len() / 33 < n {
-        return 0;
-    }
-    if answers.len() / 3 < n {
-        return 0;
-    }
-    let mut j: usize = 0;
-    let mut a: usize = 0;
-    let mut at: usize = 0;
-    while j < n {
-        if marks[j] == 1 {
-            at = place(dst, at, answers[a], answers[a + 1], answers[a + 2]);
-            a += 3;
-            j += 1;
-            continue;
-        }
-        at = place(dst, at, 22, 0, 64);
-        j += 1;
-    }
-    at
 }

@@ -3,7 +3,7 @@ ghost use Prim.Native.Nat.{_+_, _<_, _≤_};
 ghost use mathlib.Core.Path.{_≡_};
 ghost use lib.ListN.{length};
 ghost use Rattle.text.specs.Reading.{isDigit};
-ghost use Rattle.text.specs.Parts.{Runs, Found, TwoDigits, Short, oneDigit};
+ghost use Rattle.text.specs.Parts.{Runs, Found, Short, oneDigit};
 
 // Digits: what they spell, the place past them, and the byte there; at the end of input a line feed.
 struct Run {
@@ -58,21 +58,29 @@ fn digits(s: &[u8], from: usize) -> Run
     }
 }
 
-// The number of the field at a place with two digits.
-fn long_field(s: &[u8], from: usize) -> Number
-    requires { ⌜ TwoDigits (now s) from ⌝ }
+// The number of the field at a place. Where none is readable, the end is that place.
+pub(crate) fn field(s: &[u8], from: usize) -> Number
     ensures { λ r. ⌜ Found (now (s .entry)) from r ⌝ }
 {
-    if s[from] == 48 {
+    let d = digits(s, from);
+    let value = d.value;
+    let end = d.end;
+    if 4294967295 < value {
         return Number {
             value: 0,
             end: from,
             after: 0,
         };
     }
-    let d = digits(s, from);
-    let value = d.value;
-    if 4294967295 < value {
+    // with one digit the number may be 0; no digit, and it ends where it begins
+    if end - from < 2 {
+        return Number {
+            value: value as u32,
+            end,
+            after: d.after,
+        };
+    }
+    if s[from] == 48 {
         return Number {
             value: 0,
             end: from,
@@ -81,50 +89,9 @@ fn long_field(s: &[u8], from: usize) -> Number
     }
     Number {
         value: value as u32,
-        end: d.end,
+        end,
         after: d.after,
     }
-}
-
-// The number of the field at a place. Where none is readable, the end is that place. Most fields have one digit, so the byte after
-// the first is looked at before the loop.
-pub(crate) fn field(s: &[u8], from: usize) -> Number
-    ensures { λ r. ⌜ Found (now (s .entry)) from r ⌝ }
-{
-    let n = s.len();
-    if n <= from {
-        return Number {
-            value: 0,
-            end: from,
-            after: 0,
-        };
-    }
-    let first = s[from];
-    if !is_digit(first) {
-        return Number {
-            value: 0,
-            end: from,
-            after: 0,
-        };
-    }
-    let value = (first - 48) as u32;
-    let second = from + 1;
-    if n <= second {
-        return Number {
-            value,
-            end: second,
-            after: 10,
-        };
-    }
-    let after = s[second];
-    if !is_digit(after) {
-        return Number {
-            value,
-            end: second,
-            after,
-        };
-    }
-    long_field(s, from)
 }
 
 // The number of a field of one digit that a tab ends, else 10: most fields are such, and need no other test.

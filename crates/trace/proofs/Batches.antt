@@ -18,8 +18,8 @@ use Rattle.rules.specs.Runs.{runOf, answersOf, eventOf, eventsTo, eventsOf, wor
 use Rattle.text.specs.declared.chunks.Parsed.{Parsed}
 use Rattle.text.specs.Lines.{linesOf}
 use Rattle.text.specs.Reading.{numbersOf, exactly}
-use Rattle.text.specs.Writing.{answerText}
-use Rattle.text.specs.Chunks.{known, isKnown, eventIn, markOf, wordsIn, room, Parses, answersText, printed, printedCount}
+use Rattle.text.specs.Chunks.{known, isKnown, eventIn, markOf, wordsIn, room, Parses}
+use Rattle.writing.specs.Writing.{answerText, answersText, printed, printedCount}
 use Rattle.trace.specs.Program.{unreadable, eventLine, lineDoes, keptAfter, lineText, keptBy, printedBy}
 use Rattle.trace.specs.Chunks.{Lent, lent, mostLines, linesTaken, advanced, lentAfter}
 use Rattle.trace.specs.Parts.{running}

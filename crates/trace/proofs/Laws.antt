@@ -11,7 +11,7 @@ use lib.ListN.{length, take, drop, length-append}
 use lib.Seq.{take-all, length-take-le}
 use Rattle.text.specs.Lines.{linesOf, firstLine, passedBy}
 use Rattle.text.specs.Reading.{numbersOf}
-use Rattle.text.proofs.Bools.{and-true}
+use Rattle.text.proofs.Bools.{and-both}
 use Rattle.text.proofs.Lines.{free, lines-free}
 use Rattle.trace.specs.declared.kept.Kept.{Kept}
 use Rattle.trace.specs.Program.{nothingKept, lineDoes, keptAfter, keptBy, printedBy, program}
@@ -50,7 +50,7 @@ unfolding free
 free-take zero s p = refl
 free-take (suc n) [] p = refl
 free-take (suc n) (b ∷ s) p =
-    let h = and-true (not (eqb b 10)) (free 10 s) p in
+    let h = and-both (not (eqb b 10)) (free 10 s) p in
     rw (h .0) (free-take n s (h .1))
 
 -- 97 bytes stand for all of an unfinished line

@@ -10,7 +10,7 @@ use lib.ListN.{length, take, drop, length-append, length-take, length-drop, drop
 use Rattle.rules.specs.declared.events.Answer.{Answer}
 use Rattle.rules.specs.Tools.{pick}
 use Rattle.text.specs.Lines.{linesOf, passed, passedBy}
-use Rattle.text.proofs.Answers.{answer-short}
+use Rattle.writing.proofs.Puts.{answer-short}
 use Rattle.trace.specs.declared.kept.Kept.{Kept}
 use Rattle.trace.specs.declared.kept.Advanced.{Advanced}
 use Rattle.trace.specs.Program.{keptAfter, lineDoes, lineText, keptBy, printedBy}

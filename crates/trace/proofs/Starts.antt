@@ -19,10 +19,10 @@ use Rattle.text.specs.declared.reading.Taken.{Taken}
 use Rattle.text.specs.Lines.{linesOf, firstLine, passed, passedBy}
 use Rattle.text.specs.Reading.{numbersOf, exactly, packed, takenAt}
 use Rattle.text.specs.Chunks.{wordsIn}
-use Rattle.text.specs.Writing.{answerText, putAt, putCount}
 use Rattle.text.proofs.Lines.{lines-some, passed-nil}
-use Rattle.text.proofs.Answers.{answer-short, is-put}
 use Rattle.text.proofs.Events.{next-any}
+use Rattle.writing.specs.Writing.{answerText, putAt, putCount}
+use Rattle.writing.proofs.Puts.{answer-short, is-put}
 use Rattle.trace.specs.declared.kept.Kept.{Kept}
 use Rattle.trace.specs.declared.kept.Advanced.{Advanced}
 use Rattle.trace.specs.Program.{unreadable, startLine, lineDoes, keptAfter, lineText, keptBy, printedBy}

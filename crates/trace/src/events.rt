@@ -25,7 +25,7 @@ pub(crate) fn run(
     let count = p.words;
     let lines = p.lines;
     let b = model::batch(state, &words[0..count], answers);
-    let written = text::print(out, &marks[0..lines], answers);
+    let written = writing::print(out, &marks[0..lines], answers);
     let state = b.state;
     Advanced {
         kept: Kept {

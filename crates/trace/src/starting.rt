@@ -65,7 +65,7 @@ pub(crate) fn begin(kept: Kept, s: &[u8], out: &mut [u8]) -> Advanced
     let words = t.words;
     let r = start_line(t.count, words);
     let a = r.answer;
-    let written = text::write(out, 0, a.number, a.word, a.slot);
+    let written = writing::write(out, 0, a.number, a.word, a.slot);
     let state = r.state;
     Advanced {
         kept: Kept {

@@ -1,11 +1,10 @@
 use Prim.Native.Nat.{_+_, _-_, _≤_}
-use mathlib.Core.Bool.{false}
+use mathlib.Core.Bool.{false, false≢true}
 use mathlib.Core.Path.{_≡_, refl, sym, _∙_}
 use native.Mathlib.Omega.{arith}
 use borrow.Author.Needs.{needs}
 use lib.ListN.{length, drop}
 use Rattle.text.specs.Lines.{linesOf}
-use Rattle.text.proofs.Bools.{not-both}
 use Rattle.trace.specs.Program.{keptBy}
 use Rattle.trace.specs.Chunks.{lent}
 use Rattle.trace.specs.Parts.{Roomy}
@@ -66,7 +65,7 @@ same-length-4 : tie.Need-same-length-4 Inv-loop μ-loop
 same-length-4 c = search needs
 
 returns : tie.Need-returns Inv-loop μ-loop
-returns c = λ e. absurd (not-both false e refl)
+returns c = λ e. absurd (false≢true e)
 
 loop-less : tie.Need-loop-less Inv-loop μ-loop
 loop-less c =

@@ -1,4 +1,5 @@
 use Prim.Native.Nat.{_-_, _<_}
+use mathlib.Core.Bool.{true≢false}
 use mathlib.Core.Path.{_≡_, refl, sym, _∙_}
 use native.Mathlib.Omega.{arith}
 use borrow.Author.Needs.{needs}
@@ -6,7 +7,7 @@ use borrow.Author.Tests.{not-true, not-false}
 use lib.ListN.{length, getD}
 use Rattle.text.specs.Parts.{Digits}
 use Rattle.text.proofs.Lines.{byte-in, byte-out}
-use Rattle.text.proofs.Bools.{not-both, digit-in}
+use Rattle.text.proofs.Bools.{digit-in}
 use Rattle.text.proofs.Runs.{digits-none, digits-more}
 use Rattle.text.proofs.numbers.digits.Statement.{statement}
 use Rattle.text.proofs.numbers.digits.Tie as tie
@@ -29,7 +30,7 @@ is-digit-requires c κs = search needs
 returns : tie.Need-returns Inv-loop μ-loop
 returns c =
     let l = c .before .before .before .before .loop in
-    record { run = l .inv .2; small = l .inv .1; after = byte-in (c .before .before .before .before .before .before .args .s .now) (l .i) (omega arith); stop = λ h d. absurd (not-both _ d (sym (c .before .is-digit .ensures) ∙ not-true _ (c .if1 .taken))) }
+    record { run = l .inv .2; small = l .inv .1; after = byte-in (c .before .before .before .before .before .before .args .s .now) (l .i) (omega arith); stop = λ h d. absurd (true≢false (sym d ∙ sym (c .before .is-digit .ensures) ∙ not-true _ (c .if1 .taken))) }
 
 returns-2 : tie.Need-returns-2 Inv-loop μ-loop
 returns-2 c =
