@@ -6,8 +6,8 @@ use lib.Seq.{take-length}
 use Rattle.trace.specs.Arrivals.{wholeOf}
 use Rattle.trace.proofs.Copies.{ends-whole, one-less, none-whole}
 use borrow.Author.Needs.{needs}
-use Rattle.trace.proofs.arriving.whole.Statement.{statement}
-use Rattle.trace.proofs.arriving.whole.Tie as tie
+use Rattle.trace.proofs.holding.whole.Statement.{statement}
+use Rattle.trace.proofs.holding.whole.Tie as tie
 
 abbrev Inv-loop : tie.InvT-loop
 Inv-loop s i₀ i = (i ≤ length s) × (wholeOf (take i s) ≡ wholeOf s)

@@ -2,8 +2,8 @@ use Prim.Native.Nat.{_-_, _≤_}
 use native.Mathlib.Omega.{arith}
 use Rattle.trace.proofs.Copies.{Copying, copying-start, copying-more, copying-end}
 use borrow.Author.Needs.{needs}
-use Rattle.trace.proofs.arriving.copy_front.Statement.{statement}
-use Rattle.trace.proofs.arriving.copy_front.Tie as tie
+use Rattle.trace.proofs.holding.copy_front.Statement.{statement}
+use Rattle.trace.proofs.holding.copy_front.Tie as tie
 
 abbrev Inv-loop : tie.InvT-loop
 Inv-loop buf₀ from n i₀ buf i = (i ≤ n) × Copying buf₀ from n buf i
