@@ -79,34 +79,31 @@ module _ (d : List ℕ) (from to n : ℕ) (h : from ≤ to) (k : to ≤ length d
 less-none : (n : ℕ) → n - 0 ≡ n
 less-none n = omega arith
 
+-- the lines answered lie among the bytes held
+pub read-fits : (k : Kept) (s : List ℕ) (l : Lent) (end : ℕ) (r : Advanced) → r ≡ advanced k (take (end - 0) s) l → r .read ≤ end
+read-fits k s l end r e =
+    let w = read-within k (take (end - 0) s) l in
+    let m = length-take (end - 0) s in
+    let x : r .read ≡ advanced k (take (end - 0) s) l .read = ap (λ (a : Advanced). a .read) e in
+    omega arith
+
 module _ (k : Kept) (d : List ℕ) (held : ℕ) (last : Bool) (l : Lent) (to end : ℕ) (t : to ≡ min held (length d))
     (f₀ : Front (take (to - 0) d) end (readyIn last (take (to - 0) d))) where
   f : Front (take to d) end (readyIn last (take to d))
   f = subst (λ (n : ℕ). Front (take n d) end (readyIn last (take n d))) (less-none to) f₀
 
-  pub all-held : take to d ≡ take held d
+  all-held : take to d ≡ take held d
   all-held = take-least held to d t
 
-  pub end-fits : end ≤ to
+  end-fits : end ≤ to
   end-fits = let m = length-take to d in let g = f .1 in omega arith
 
-  pub to-fits : to ≤ length d
-  to-fits = omega arith
-
-  pub answered-part : take end d ≡ readyIn last (take held d)
+  answered-part : take end d ≡ readyIn last (take held d)
   answered-part = sym (take-take end to d end-fits) ∙ f .0 ∙ ap (readyIn last) all-held
 
   module _ (r : Advanced) (e₀ : r ≡ advanced k (take (end - 0) d) l) where
     e : r ≡ advanced k (take end d) l
     e = e₀ ∙ ap (λ (n : ℕ). advanced k (take n d) l) (less-none end)
-
-    pub read-fits : r .read ≤ to
-    read-fits =
-        let w = read-within k (take end d) l in
-        let m = length-take end d in
-        let g = end-fits in
-        let x : r .read ≡ advanced k (take end d) l .read = ap (λ (a : Advanced). a .read) e in
-        omega arith
 
     abbrev heldNow : List ℕ
     heldNow = clipped (drop (r .read) (take to d))

@@ -1,4 +1,6 @@
+use Prim.Native.Nat.{_-_}
 use native.Mathlib.Omega.{arith}
+use lib.ListN.{length-take}
 use denote.Ref.{now}
 use Rattle.trace.specs.Chunks.{lent}
 use Rattle.trace.proofs.Turns.{read-fits, turn-is}
@@ -40,7 +42,10 @@ hold-requires c κs =
     let s = r .before .before .before .before .before .before .before .before .before in
     let a = s .args in
     let l = lent (now (a .words)) (now (a .marks)) (now (a .answers)) (now (a .out)) in
-    (read-fits (a .kept) (now (a .buf)) (a .held) (a .last) l (r .before .before .before .least .result) (r .ready .result) (r .before .before .before .least .ensures) (r .ready .ensures) (t .advance .result) (t .advance .ensures .0), omega (arith, r .before .before .before .least .ensures))
+    let f = read-fits (a .kept) (now (a .buf)) l (r .ready .result) (t .advance .result) (t .advance .ensures .0) in
+    let to = r .before .before .before .least in
+    let m = length-take (to .result - 0) (now (a .buf)) in
+    (omega (arith, f, r .ready .ensures .1, m), omega (arith, to .ensures))
 
 same-length : tie.Need-same-length
 same-length c = search needs
