@@ -8,17 +8,18 @@ use native.Mathlib.Omega.{arith}
 use borrow.Author.Tests.{lt-leb, leb-true, leb-false, eqb-true}
 use lib.Dec.{leb, eqb}
 use lib.ListN.{length, take, drop, length-append, take-append-drop}
-use lib.Seq.{take-all, length-take-le, drop-append-le}
+use lib.Seq.{sets-eq, take-append-seam, take-all, length-take-le, drop-append-le}
 use Rattle.text.specs.Lines.{linesOf, firstLine, passedBy}
 use Rattle.text.specs.Reading.{numbersOf}
 use Rattle.text.proofs.Bools.{and-true}
 use Rattle.text.proofs.Lines.{free, lines-free}
 use Rattle.trace.specs.declared.kept.Kept.{Kept}
 use Rattle.trace.specs.Program.{nothingKept, lineDoes, keptAfter, keptBy, printedBy, program}
-use Rattle.trace.specs.Arrivals.{wholeOf, clipped, answeredIn, heldAfter, Prints, ended, part, last}
+use Rattle.trace.specs.Arrivals.{wholeOf, readyIn, clipped, answeredIn, heldAfter, turned, Prints, ended, part, last}
+use Rattle.trace.specs.Chunks.{Lent, mostLines, lentAfter}
 use Rattle.trace.proofs.Lists.{printed-append, lines-split}
 use Rattle.trace.proofs.Wholes.{cut, whole-drop, lines-whole, no-feed}
-use Rattle.trace.proofs.Sizes.{passed-by-within}
+use Rattle.trace.proofs.Sizes.{passed-by-within, written-fits}
 
 -- some lines first, then the others
 pub in-turn : (n : ℕ) (s : List ℕ) (k : Kept)
@@ -145,3 +146,12 @@ any-arrival k h ps out (last k′ h′ out′ most rest) =
 pub arrives : (ps : List (List ℕ)) (out : List ℕ) → Prints nothingKept [] ps out → out ≡ program (flatten ps)
 unfolding program
 arrives ps out p = any-arrival nothingKept [] ps out p
+
+-- the bytes that a turn says it has written are what those turns print
+pub sent : (k : Kept) (s : List ℕ) (end : Bool) (l : Lent)
+    → take (turned k s end l .written) (lentAfter k (readyIn end s) l .out) ≡ printedBy k (answeredIn (mostLines k l) end s)
+unfolding turned lentAfter
+sent k s end l =
+    let p = printedBy k (answeredIn (mostLines k l) end s) in
+    let w = written-fits k (readyIn end s) l in
+    ap (take (length p)) (sets-eq p (l .out) 0 (omega arith)) ∙ take-append-seam p _

@@ -34,7 +34,7 @@ pub(crate) fn ready(s: &[u8], last: bool) -> usize
 }
 
 // How many bytes of `s` are held.
-fn kept_of(s: &[u8]) -> usize
+fn held_of(s: &[u8]) -> usize
     ensures { λ r. ⌜ take r (now (s .entry)) ≡ clipped (now (s .entry)) ⌝ }
     ensures { λ r. ⌜ r ≤ length (now (s .entry)) ⌝ }
 {
@@ -64,7 +64,7 @@ pub(crate) fn hold(buf: &mut [u8], from: usize, to: usize) -> usize
     ensures { λ r. ⌜ r ≡ length (clipped (drop from (take to (now (buf .entry))))) ⌝ }
     ensures { λ _. ⌜ now (buf .exit) ≡ sets (now (buf .entry)) 0 (clipped (drop from (take to (now (buf .entry))))) ⌝ }
 {
-    let n = kept_of(&buf[from..to]);
+    let n = held_of(&buf[from..to]);
     copy_front(buf, from, n);
     n
 }

@@ -1,7 +1,7 @@
 use Rattle.trace.proofs.Turns.{held-some, held-all}
 use borrow.Author.Needs.{needs}
-use Rattle.trace.proofs.holding.kept_of.Statement.{statement}
-use Rattle.trace.proofs.holding.kept_of.Tie as tie
+use Rattle.trace.proofs.holding.held_of.Statement.{statement}
+use Rattle.trace.proofs.holding.held_of.Tie as tie
 
 whole-requires : tie.Need-whole-requires
 whole-requires c κs = search needs
@@ -15,5 +15,5 @@ returns c = held-some _ _ _ (c .before .before .whole .ensures) (c .before .if1 
 returns-2 : tie.Need-returns-2
 returns-2 c = held-all _ _ (c .before .whole .ensures) (c .if1 .left)
 
-pub kept-of-spec : {M : Type 1} → statement M
-kept-of-spec = tie.close (tie.spec whole-requires least-requires returns returns-2)
+pub held-of-spec : {M : Type 1} → statement M
+held-of-spec = tie.close (tie.spec whole-requires least-requires returns returns-2)
