@@ -38,6 +38,14 @@ fn go(
     ensures { λ r. ⌜ Room (now (buf .exit)) (r .held) ⌝ }
 {
     let got = read_more(fd, name, buf, held);
+    // a turn with no line would check the whole state for nothing
+    if got.last & (got.held == 0) {
+        return Went {
+            kept,
+            held: 0,
+            on: false,
+        };
+    }
     let t = trace::turn(kept, buf, got.held, got.last, words, marks, answers, out);
     let sent = send(out, t.written);
     let next = t.kept;

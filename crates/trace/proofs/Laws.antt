@@ -1,6 +1,6 @@
 -- What the definition of the program promises. Assumes nothing.
 use Prim.Native.Nat.{ℕ, zero, suc, _<_}
-use mathlib.Core.Path.{_≡_, refl, sym, ap, _∙_}
+use mathlib.Core.Path.{_≡_, refl, sym, ap, subst, _∙_}
 use mathlib.Core.Bool.{Bool, true, false, not}
 use mathlib.Core.List.{List, [], _∷_, _++_, flatten, append-assoc, append-nil}
 use mathlib.Core.Option.{none}
@@ -8,7 +8,7 @@ use native.Mathlib.Omega.{arith}
 use borrow.Author.Tests.{lt-leb, leb-true, leb-false, eqb-true}
 use lib.Dec.{leb, eqb}
 use lib.ListN.{length, take, drop, length-append, take-append-drop}
-use lib.Seq.{sets-eq, take-append-seam, take-all, length-take-le, drop-append-le}
+use lib.Seq.{sets-eq, drop-length, take-append-seam, take-all, length-take-le, drop-append-le}
 use Rattle.text.specs.Lines.{linesOf, firstLine, passedBy}
 use Rattle.text.specs.Reading.{numbersOf}
 use Rattle.text.proofs.Bools.{and-true}
@@ -19,7 +19,7 @@ use Rattle.trace.specs.Arrivals.{wholeOf, readyIn, clipped, answeredIn, 
 use Rattle.trace.specs.Chunks.{Lent, mostLines, lentAfter}
 use Rattle.trace.proofs.Lists.{printed-append, lines-split}
 use Rattle.trace.proofs.Wholes.{cut, whole-drop, lines-whole, no-feed}
-use Rattle.trace.proofs.Sizes.{passed-by-within, written-fits}
+use Rattle.trace.proofs.Sizes.{passed-by-within, passed-all, written-fits}
 
 -- some lines first, then the others
 pub in-turn : (n : ℕ) (s : List ℕ) (k : Kept)
@@ -155,3 +155,17 @@ sent k s end l =
     let p = printedBy k (answeredIn (mostLines k l) end s) in
     let w = written-fits k (readyIn end s) l in
     ap (take (length p)) (sets-eq p (l .out) 0 (omega arith)) ∙ take-append-seam p _
+
+-- ---- for every input in parts there are turns
+
+all-answered : (h : List ℕ) → heldAfter (length h) true h ≡ []
+unfolding heldAfter clipped wholeOf
+all-answered h = rw (passed-all (length h) h (omega arith), drop-length h) refl
+
+pub some-turns : (ps : List (List ℕ)) (k : Kept) (h : List ℕ) → (out : List ℕ) × Prints k h ps out
+some-turns [] k h =
+    let k′ = keptBy k (answeredIn (length h) true h) in
+    (_, last k h [] (length h) (subst (λ (x : List ℕ). Prints k′ x [] []) (sym (all-answered h)) (ended k′)))
+some-turns (p ∷ ps) k h =
+    let r = some-turns ps (keptBy k (answeredIn 0 false (h ++ p))) (heldAfter 0 false (h ++ p)) in
+    (_, part k h p ps (r .0) 0 (r .1))

@@ -1,5 +1,6 @@
 -- How far one call goes. Assumes nothing.
-use Prim.Native.Nat.{ℕ, zero, suc, _-_, _*_, _≤_}
+use Prim.Native.Nat.{ℕ, zero, suc, _*_, _≤_, min}
+use mathlib.Core.Path.{_≡_}
 use mathlib.Core.Bool.{Bool, true, false, cond}
 use mathlib.Core.List.{List, [], _∷_}
 use native.Mathlib.Omega.{arith}
@@ -34,6 +35,15 @@ unfolding passed
 passed-within [] = omega arith
 passed-within (b ∷ s) = bounds (passed s) (length s) (eqb b 10) (passed-within s)
 
+passed-least : (s : List ℕ) → min 1 (length s) ≤ passed s
+unfolding passed
+passed-least [] = omega arith
+passed-least (b ∷ s) = least (passed s) (eqb b 10)
+  where
+    least : (n : ℕ) (t : Bool) → min 1 (suc (length s)) ≤ cond t 1 (suc n)
+    least n true = omega arith
+    least n false = omega arith
+
 pub passed-by-within : (n : ℕ) (s : List ℕ) → passedBy n s ≤ length s
 unfolding passedBy
 passed-by-within zero s = omega arith
@@ -41,6 +51,17 @@ passed-by-within (suc n) s =
     let i = passed-by-within n (drop (passed s) s) in
     let l = length-drop (passed s) s in
     let w = passed-within s in
+    omega arith
+
+-- as many lines as there are bytes are all lines
+pub passed-all : (n : ℕ) (s : List ℕ) → length s ≤ n → passedBy n s ≡ length s
+unfolding passedBy
+passed-all zero s h = omega arith
+passed-all (suc n) s h =
+    let w = passed-within s in
+    let p = passed-least s in
+    let l = length-drop (passed s) s in
+    let i = passed-all n (drop (passed s) s) (omega arith) in
     omega arith
 
 module _ (k : Kept) (s : List ℕ) (l : Lent) where
