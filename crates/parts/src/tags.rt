@@ -2,8 +2,6 @@
 ghost use mathlib.Core.Path.{_≡_};
 ghost use Prim.Native.Nat.{_≤_};
 ghost use Rattle.parts.specs.Tags.{tagOf, Tagged, firstUntagged, absent as absentFrom};
-use rules::choices::either;
-use rules::empties::is_free;
 use rules::messages::Message;
 use rules::messages::MessageKind;
 use rules::numbers::Serial;
@@ -12,7 +10,13 @@ use rules::numbers::Serial;
 pub fn tag(kind: MessageKind, line: u8, q: Serial) -> u32
     ensures { λ r. ⌜ r ≡ tagOf kind line (q .0) ⌝ }
 {
-    either(is_free(kind), 0, line as u32 * 256 + q.0 as u32 + 1)
+    let busy = line as u32 * 256 + q.0 as u32 + 1;
+    match kind {
+        MessageKind::Free => 0,
+        MessageKind::Tokens => busy,
+        MessageKind::OwnershipAck => busy,
+        MessageKind::DeletionAck => busy,
+    }
 }
 
 pub fn tags_of(pool: [Message; 64]) -> [u32; 64]

@@ -42,11 +42,11 @@ impl Cell {
     }
 
     // Valid, with the word.
-    pub fn fill(mut self, word: u32) -> Cell
-        ensures { λ r. ⌜ r ≡ filled word self ⌝ }
+    pub fn fill(mut self, came: u32) -> Cell
+        ensures { λ r. ⌜ r ≡ filled came self ⌝ }
     {
         self.valid = true;
-        self.word = word;
+        self.word = came;
         self
     }
 

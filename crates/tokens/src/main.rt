@@ -1,108 +1,134 @@
-// The program `tokens`: lines of numbers from standard input, an answer to each to standard output. What it is to print is
-// `program` of trace/specs, however the input arrives (`arrives` in trace/proofs): the loop here only reads and writes.
+// The program `tokens`: lines of numbers from standard input or one file, an answer to each to standard output. What it is
+// to print is `program` of trace/specs. It reads, lets `trace::turn` answer, and writes; that such turns print no more and
+// no less, however the input arrives, is `arrives` in trace/proofs.
+mod reading;
+mod telling;
+mod writing;
+
+use reading::read_more;
+use telling::refuse;
+use telling::tell;
 use trace::Kept;
-ghost use Prim.Native.Nat.{_≤_, _<_};
-ghost use mathlib.Core.Bool.{true};
-ghost use mathlib.Core.Path.{_≡_};
+use writing::send;
+ghost use Prim.Native.Nat.{_<_};
 ghost use lib.ListN.{length};
-ghost use Rattle.text.specs.Lines.{linesOf};
-ghost use Rattle.trace.specs.Program.{keptBy};
-ghost use Rattle.trace.specs.Chunks.{lent};
-ghost use Rattle.trace.specs.Parts.{Roomy};
+ghost use Rattle.tokens.specs.Rooms.{Room};
 
-// What is kept after lines were answered, and whether their answers could be written.
-struct Answered {
+// What is kept and held after a turn, and whether another is due.
+struct Went {
     kept: Kept,
-    written: bool,
+    held: usize,
+    on: bool,
 }
 
-fn send(out: &[u8], size: usize) -> bool
-    requires { ⌜ size ≤ length (now out) ⌝ }
-{
-    io::write_all(1, &out[0..size])
-}
-
-// Answers all lines of `s`, as many at a time as there is room for.
-fn answer_all(
+// Reads, answers and writes. A read that fails leaves no whole line held, so that nothing is answered after it.
+fn go(
     kept: Kept,
-    s: &[u8],
+    held: usize,
+    fd: i32,
+    name: &[u8],
+    buf: &mut [u8],
     words: &mut [u32],
     marks: &mut [u8],
     answers: &mut [u32],
     out: &mut [u8],
-) -> Answered
-    requires { ⌜ Roomy (lent (now words) (now marks) (now answers) (now out)) ⌝ }
-    ensures { λ r. ⌜ (r .written ≡ true → r .kept ≡ keptBy kept (linesOf (now (s .entry)))) ⌝ }
+) -> Went
+    requires { ⌜ 97 < length (now buf) ⌝ }
+    requires { ⌜ Room (now buf) held ⌝ }
+    ensures { λ r. ⌜ Room (now (buf .exit)) (r .held) ⌝ }
 {
-    let n = s.len();
-    let mut now_kept = kept;
-    let mut at: usize = 0;
-    while at < n {
-        let a = trace::advance(now_kept, &s[at..n], words, marks, answers, out);
-        let next = a.kept;
-        now_kept = next;
-        at += a.read;
-        if !send(out, a.written) {
-            return Answered {
-                kept: now_kept,
-                written: false,
-            };
-        }
+    let got = read_more(fd, name, buf, held);
+    // a turn with no line would check the whole state for nothing
+    if got.last & (got.held == 0) {
+        return Went {
+            kept,
+            held: 0,
+            on: false,
+        };
     }
-    Answered {
-        kept: now_kept,
-        written: true,
+    let t = trace::turn(kept, buf, got.held, got.last, words, marks, answers, out);
+    let sent = send(out, t.written);
+    let next = t.kept;
+    let left = t.held;
+    Went {
+        kept: next,
+        held: left,
+        on: sent & !got.failed & !(got.last & (left == 0)),
     }
 }
 
-// Reads once, as many bytes as there is room for at most; none at the end of input.
-fn read_part(part: &mut [u8]) -> usize
-    ensures { λ r. ⌜ r ≤ length (now (part .entry)) ⌝ }
-{
-    let got = libc::read(0, part);
-    io::count(got, part)
-}
-
-// How many of the bytes read can be answered: at the end of input all, before it the whole lines.
-fn ready(s: &[u8], last: bool) -> usize
-    ensures { λ r. ⌜ r ≤ length (now (s .entry)) ⌝ }
-{
-    if last { s.len() } else { trace::whole(s) }
-}
-
-// Reads and answers to the end of input, or until a write fails.
-fn run(buf: &mut [u8], words: &mut [u32], marks: &mut [u8], answers: &mut [u32], out: &mut [u8])
-    requires { ⌜ (97 < length (now buf)) × Roomy (lent (now words) (now marks) (now answers) (now out)) ⌝ }
+// Turn after turn to the end of input, or until a read or a write fails.
+fn run(
+    fd: i32,
+    name: &[u8],
+    buf: &mut [u8],
+    words: &mut [u32],
+    marks: &mut [u8],
+    answers: &mut [u32],
+    out: &mut [u8],
+)
+    requires { ⌜ 97 < length (now buf) ⌝ }
 {
     let mut kept = trace::unstarted();
-    let mut have: usize = 0;
-    // the proof that a loop ends needs a number that falls; no input lasts so many reads
+    let mut held: usize = 0;
+    // the proof that a loop ends needs a number that falls; no input lasts so many turns
     let mut turns = u64::MAX;
     while turns > 0 {
-        let more = read_part(&mut buf[have..]);
-        let total = have + more;
-        let last = more == 0;
-        let end = ready(&buf[0..total], last);
-        let a = answer_all(kept, &buf[0..end], words, marks, answers, out);
-        if last {
+        let w = go(kept, held, fd, name, buf, words, marks, answers, out);
+        if !w.on {
             return;
         }
-        if !a.written {
-            return;
-        }
-        let next = a.kept;
+        let next = w.kept;
         kept = next;
-        have = trace::carry(buf, end, total);
+        held = w.held;
         turns -= 1;
     }
 }
 
-// Makes the lists once, with room for 2048 lines: to make them for each call costs as much as an eighth of a line.
-fn main() {
-    let mut buf = io::large_buffer();
+// Makes the lists once: to make them for each turn costs as much as an eighth of a line. With room for 2,048 lines a turn
+// answers all readable lines that the buffer holds, since none is shorter than 16 bytes.
+fn answer(fd: i32, name: &[u8]) {
+    let mut buf = [0u8; 32768];
     let mut words = [0u32; 16384];
     let mut marks = [0u8; 2048];
     let mut answers = [0u32; 6144];
     let mut out = [0u8; 67584];
-    run(&mut buf, &mut words, &mut marks, &mut answers, &mut out);
+    run(
+        fd,
+        name,
+        &mut buf,
+        &mut words,
+        &mut marks,
+        &mut answers,
+        &mut out,
+    );
+}
+
+// Answers the file of that name.
+fn answer_file() {
+    let mut path = io::buffer();
+    let n = os::arg(1, &mut path);
+    if os::errno() != 0 {
+        tell(b"the file's name");
+        return;
+    }
+    let fd = os::open_read(&path[..n]);
+    if fd < 0 {
+        tell(&path[..n]);
+        return;
+    }
+    answer(fd, &path[..n]);
+}
+
+fn main() {
+    let words = os::arg_count();
+    if words > 2 {
+        refuse();
+        return;
+    }
+    if words == 2 {
+        answer_file();
+        return;
+    }
+    answer(0, b"standard input");
 }

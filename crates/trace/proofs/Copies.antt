@@ -1,14 +1,14 @@
--- What `whole` and `carry` do. Assumes nothing.
-use Prim.Native.Nat.{ℕ, suc, _+_, _-_, _≤_, _<_, min}
+-- Whole lines from the end on, and a copy to the front. Assumes nothing.
+use Prim.Native.Nat.{ℕ, suc, _+_, _-_, _≤_, _<_}
 use mathlib.Core.Path.{_≡_, refl, sym, ap, _∙_}
 use mathlib.Core.List.{List, [], _∷_, _++_}
 use native.Mathlib.Omega.{arith}
 use native.Mathlib.Nat.{zero-add, add-comm}
 use borrow.Author.Tests.{eq-eqb, ne-eqb}
-use lib.ListN.{length, getD, take, drop, set, length-take, length-drop, length-set, drop-of-length-le}
-use lib.Seq.{sets, take-suc, getD-take, getD-drop, drop-drop, drop-set-lt, length-take-le, take-nil, ext-getD}
+use lib.ListN.{length, getD, take, drop, set, length-drop, length-set}
+use lib.Seq.{sets, take-suc, getD-take, getD-drop, drop-drop, drop-set-lt, length-take-le}
 use Rattle.text.proofs.Stores.{sets-step, sets-all}
-use Rattle.trace.specs.Arrivals.{wholeOf, carriedFrom}
+use Rattle.trace.specs.Arrivals.{wholeOf}
 
 -- ---- whole lines, from the end on
 
@@ -81,39 +81,3 @@ module _ (d₀ : List ℕ) (from n : ℕ) (d : List ℕ) (i : ℕ) (c : Copying 
 
   pub copying-end : n ≤ i → d ≡ sets d₀ 0 (piece d₀ from n)
   copying-end h = sym (sets-all d i (piece d₀ from n) i (let l = piece-length in omega arith)) ∙ c .bytes
-
--- ---- what is carried
-
-module _ (d : List ℕ) (from to end : ℕ) (e : end ≡ min to (length d)) where
-  -- the count and the bytes that a call leaves
-  abbrev Carries : ℕ → List ℕ → Type 0
-  Carries n d′ = (n ≡ length (carriedFrom from (take to d))) × (d′ ≡ sets d 0 (carriedFrom from (take to d)))
-
-  nothing-carried : end ≤ from → carriedFrom from (take to d) ≡ []
-  nothing-carried h =
-      let l = length-take to d in
-      ap (take 97) (drop-of-length-le (take to d) {i = from} (omega arith)) ∙ take-nil 97
-
-  pub carries-none : end ≤ from → Carries 0 d
-  carries-none h = rw (nothing-carried h) (refl, refl)
-
-  module _ (h : from < end) (n : ℕ) (f : n ≡ min (end - from) 97) where
-    carried-length : length (carriedFrom from (take to d)) ≡ n
-    carried-length =
-        let a = length-take 97 (drop from (take to d)) in
-        let b = length-drop from (take to d) in
-        let c = length-take to d in
-        omega arith
-
-    piece-size : length (piece d from n) ≡ n
-    piece-size = length-take-le n (drop from d) (let l = length-drop from d in omega arith)
-
-    same-byte : (i : ℕ) → i < length (piece d from n) → getD (piece d from n) i 0 ≡ getD (carriedFrom from (take to d)) i 0
-    same-byte i k =
-        let l = piece-size in
-        getD-take n (drop from d) i 0 (omega arith)
-        ∙ getD-drop from d i 0
-        ∙ sym (getD-take 97 (drop from (take to d)) i 0 (omega arith) ∙ getD-drop from (take to d) i 0 ∙ getD-take to d (from + i) 0 (omega arith))
-
-    pub carries : (d′ : List ℕ) → d′ ≡ sets d 0 (piece d from n) → Carries n d′
-    carries d′ g = (sym carried-length, g ∙ ap (sets d 0) (ext-getD 0 (piece d from n) (carriedFrom from (take to d)) (piece-size ∙ sym carried-length) same-byte))

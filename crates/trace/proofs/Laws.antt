@@ -1,23 +1,25 @@
 -- What the definition of the program promises. Assumes nothing.
 use Prim.Native.Nat.{ℕ, zero, suc, _<_}
-use mathlib.Core.Path.{_≡_, refl, sym, ap, _∙_}
+use mathlib.Core.Path.{_≡_, refl, sym, ap, subst, _∙_}
 use mathlib.Core.Bool.{Bool, true, false, not}
 use mathlib.Core.List.{List, [], _∷_, _++_, flatten, append-assoc, append-nil}
 use mathlib.Core.Option.{none}
 use native.Mathlib.Omega.{arith}
-use borrow.Author.Tests.{lt-leb, leb-true, leb-false}
+use borrow.Author.Tests.{lt-leb, leb-true, leb-false, eqb-true}
 use lib.Dec.{leb, eqb}
-use lib.ListN.{length, take, drop, length-append}
-use lib.Seq.{take-all, length-take-le}
+use lib.ListN.{length, take, drop, length-append, take-append-drop}
+use lib.Seq.{sets-eq, drop-length, take-append-seam, take-all, length-take-le, drop-append-le}
 use Rattle.text.specs.Lines.{linesOf, firstLine, passedBy}
 use Rattle.text.specs.Reading.{numbersOf}
 use Rattle.text.proofs.Bools.{and-both}
 use Rattle.text.proofs.Lines.{free, lines-free}
 use Rattle.trace.specs.declared.kept.Kept.{Kept}
 use Rattle.trace.specs.Program.{nothingKept, lineDoes, keptAfter, keptBy, printedBy, program}
-use Rattle.trace.specs.Arrivals.{wholeOf, carriedFrom, arriving}
+use Rattle.trace.specs.Arrivals.{wholeOf, readyIn, clipped, answeredIn, heldAfter, turned, Prints, ended, part, last}
+use Rattle.trace.specs.Chunks.{Lent, mostLines, lentAfter}
 use Rattle.trace.proofs.Lists.{printed-append, lines-split}
-use Rattle.trace.proofs.Wholes.{cut, lines-whole, lines-cut, no-feed}
+use Rattle.trace.proofs.Wholes.{cut, whole-drop, lines-whole, no-feed}
+use Rattle.trace.proofs.Sizes.{passed-by-within, passed-all, written-fits}
 
 -- some lines first, then the others
 pub in-turn : (n : ℕ) (s : List ℕ) (k : Kept)
@@ -54,10 +56,10 @@ free-take (suc n) (b ∷ s) p =
     rw (h .0) (free-take n s (h .1))
 
 -- 97 bytes stand for all of an unfinished line
-clipped : (k : Kept) (c r : List ℕ) (t : Bool) → leb (length c) 97 ≡ t → free 10 c ≡ true
+unfinished : (k : Kept) (c r : List ℕ) (t : Bool) → leb (length c) 97 ≡ t → free 10 c ≡ true
     → printedBy k (linesOf (take 97 c ++ r)) ≡ printedBy k (linesOf (c ++ r))
-clipped k c r true e p = rw (take-all 97 c (leb-true _ _ e))
-clipped k c r false e p =
+unfinished k c r true e p = rw (take-all 97 c (leb-true _ _ e))
+unfinished k c r false e p =
     let h = leb-false (length c) 97 e in
     let l = length-take-le 97 c (omega arith) in
     rw (
@@ -66,24 +68,104 @@ clipped k c r false e p =
     )
     (long-same k (take 97 c ++ firstLine r) (c ++ firstLine r) _ (simp length-append (omega arith)) (simp length-append (omega arith)))
 
+-- what is held stands for what was there
+as-clipped : (k : Kept) (s r : List ℕ) → printedBy k (linesOf (clipped s ++ r)) ≡ printedBy k (linesOf (s ++ r))
+unfolding clipped
+as-clipped k s r = by (eqb (wholeOf s) 0) refl
+  where
+    by : (t : Bool) → eqb (wholeOf s) 0 ≡ t → printedBy k (linesOf (clipped s ++ r)) ≡ printedBy k (linesOf (s ++ r))
+    by true e = rw e (unfinished k s r (leb (length s) 97) refl (no-feed s (eqb-true _ _ e)))
+    by false e = rw e
+
 -- ---- how the input arrives decides nothing
 
-any-arrival : (ps : List (List ℕ)) (k : Kept) (c : List ℕ) → arriving k c ps ≡ printedBy k (linesOf (c ++ flatten ps))
-unfolding arriving flatten
-any-arrival [] k c = rw (append-nil c)
-any-arrival (p ∷ ps) k c =
-    let s = c ++ p in
-    let rest = drop (wholeOf s) s in
-    let ls = linesOf (take (wholeOf s) s) in
-    rw (
-      any-arrival ps (keptBy k ls) (carriedFrom (wholeOf s) s),
-      clipped (keptBy k ls) rest (flatten ps) (leb (length rest) 97) refl (no-feed rest (cut s .rest)),
-    )
-    (sym (ap (λ (x : List ℕ). printedBy k (linesOf x)) (sym (append-assoc c p (flatten ps)))
-    ∙ ap (printedBy k) (lines-cut s (flatten ps))
-    ∙ printed-append ls (linesOf (rest ++ flatten ps)) k))
+-- lines that a turn leaves, with what follows them
+lines-after : (a x : List ℕ) (most : ℕ) → wholeOf a ≡ length a
+    → linesOf (a ++ x) ≡ take most (linesOf a) ++ linesOf (drop (passedBy most a) a ++ x)
+lines-after a x most h =
+    lines-whole a x h
+    ∙ ap (λ (ls : List (List ℕ)). ls ++ linesOf x) (lines-split most a)
+    ∙ append-assoc (take most (linesOf a)) _ _
+    ∙ ap (λ (ls : List (List ℕ)). take most (linesOf a) ++ ls) (sym (lines-whole (drop (passedBy most a) a) x (whole-drop (passedBy most a) a h)))
 
--- what is printed for an input in parts is what is printed for the input
-pub arrives : (ps : List (List ℕ)) → arriving nothingKept [] ps ≡ program (flatten ps)
+-- a turn on the whole lines, with what follows
+module _ (k : Kept) (s r : List ℕ) (most : ℕ) where
+  abbrev a : List ℕ
+  a = take (wholeOf s) s
+
+  abbrev b : List ℕ
+  b = drop (wholeOf s) s
+
+  abbrev n : ℕ
+  n = passedBy most a
+
+  left : drop n a ++ (b ++ r) ≡ drop n s ++ r
+  left =
+      sym (append-assoc (drop n a) b r)
+      ∙ ap (λ (x : List ℕ). x ++ r) (sym (drop-append-le n a b (passed-by-within most a)) ∙ ap (drop n) (take-append-drop (wholeOf s) s))
+
+  lines-turn : linesOf (s ++ r) ≡ take most (linesOf a) ++ linesOf (drop n s ++ r)
+  lines-turn =
+      let c = cut s in
+      ap (λ (x : List ℕ). linesOf (x ++ r)) (sym (take-append-drop (wholeOf s) s))
+      ∙ ap linesOf (append-assoc a b r)
+      ∙ lines-after a (b ++ r) most (c .whole ∙ sym (length-take-le (wholeOf s) s (c .within)))
+      ∙ ap (λ (x : List ℕ). take most (linesOf a) ++ linesOf x) left
+
+  turn-part : printedBy k (answeredIn most false s) ++ printedBy (keptBy k (answeredIn most false s)) (linesOf (heldAfter most false s ++ r))
+      ≡ printedBy k (linesOf (s ++ r))
+  unfolding heldAfter
+  turn-part =
+      ap (λ (x : List ℕ). printedBy k (take most (linesOf a)) ++ x) (as-clipped (keptBy k (take most (linesOf a))) (drop n s) r)
+      ∙ sym (ap (printedBy k) lines-turn ∙ printed-append (take most (linesOf a)) _ k)
+
+-- a turn at the end of input
+turn-last : (k : Kept) (s : List ℕ) (most : ℕ)
+    → printedBy k (answeredIn most true s) ++ printedBy (keptBy k (answeredIn most true s)) (linesOf (heldAfter most true s))
+    ≡ printedBy k (linesOf s)
+unfolding heldAfter
+turn-last k s most =
+    let k′ = keptBy k (take most (linesOf s)) in
+    let x = drop (passedBy most s) s in
+    ap (λ (y : List ℕ). printedBy k (take most (linesOf s)) ++ y)
+    (ap (λ (y : List ℕ). printedBy k′ (linesOf y)) (sym (append-nil (clipped x)))
+    ∙ as-clipped k′ x []
+    ∙ ap (λ (y : List ℕ). printedBy k′ (linesOf y)) (append-nil x))
+    ∙ sym (in-turn most s k)
+
+any-arrival : (k : Kept) (h : List ℕ) (ps : List (List ℕ)) (out : List ℕ) → Prints k h ps out → out ≡ printedBy k (linesOf (h ++ flatten ps))
+unfolding flatten linesOf printedBy
+any-arrival k h ps out (ended k′) = refl
+any-arrival k h ps out (part k′ h′ p ps′ out′ most rest) =
+    rw (any-arrival _ _ ps′ out′ rest)
+    (turn-part k′ (h′ ++ p) (flatten ps′) most ∙ ap (λ (x : List ℕ). printedBy k′ (linesOf x)) (append-assoc h′ p (flatten ps′)))
+any-arrival k h ps out (last k′ h′ out′ most rest) =
+    rw (any-arrival _ _ [] out′ rest, append-nil h′, append-nil (heldAfter most true h′)) (turn-last k′ h′ most)
+
+-- what turns print for an input in parts is what the program prints for the input
+pub arrives : (ps : List (List ℕ)) (out : List ℕ) → Prints nothingKept [] ps out → out ≡ program (flatten ps)
 unfolding program
-arrives ps = any-arrival ps nothingKept []
+arrives ps out p = any-arrival nothingKept [] ps out p
+
+-- the bytes that a turn says it has written are what those turns print
+pub sent : (k : Kept) (s : List ℕ) (end : Bool) (l : Lent)
+    → take (turned k s end l .written) (lentAfter k (readyIn end s) l .out) ≡ printedBy k (answeredIn (mostLines k l) end s)
+unfolding turned lentAfter
+sent k s end l =
+    let p = printedBy k (answeredIn (mostLines k l) end s) in
+    let w = written-fits k (readyIn end s) l in
+    ap (take (length p)) (sets-eq p (l .out) 0 (omega arith)) ∙ take-append-seam p _
+
+-- ---- for every input in parts there are turns
+
+all-answered : (h : List ℕ) → heldAfter (length h) true h ≡ []
+unfolding heldAfter clipped wholeOf
+all-answered h = rw (passed-all (length h) h (omega arith), drop-length h) refl
+
+pub some-turns : (ps : List (List ℕ)) (k : Kept) (h : List ℕ) → (out : List ℕ) × Prints k h ps out
+some-turns [] k h =
+    let k′ = keptBy k (answeredIn (length h) true h) in
+    (_, last k h [] (length h) (subst (λ (x : List ℕ). Prints k′ x [] []) (sym (all-answered h)) (ended k′)))
+some-turns (p ∷ ps) k h =
+    let r = some-turns ps (keptBy k (answeredIn 0 false (h ++ p))) (heldAfter 0 false (h ++ p)) in
+    (_, part k h p ps (r .0) 0 (r .1))

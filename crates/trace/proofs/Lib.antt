@@ -4,4 +4,5 @@ pub mod Batches
 pub mod Starts
 pub mod Copies
 pub mod Sizes
+pub mod Turns
 pub mod Laws

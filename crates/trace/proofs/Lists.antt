@@ -14,11 +14,6 @@ unfolding printedBy keptBy
 printed-append [] b k = refl
 printed-append (l ∷ a) b k = rw (printed-append a b (keptAfter k l)) (sym (append-assoc (lineText (lineDoes k l .answer)) _ _))
 
-pub kept-append : (a b : List (List ℕ)) (k : Kept) → keptBy k (a ++ b) ≡ keptBy (keptBy k a) b
-unfolding keptBy
-kept-append [] b k = refl
-kept-append (l ∷ a) b k = kept-append a b (keptAfter k l)
-
 split-nil : (n m : ℕ) → linesOf [] ≡ take n (linesOf []) ++ linesOf (drop m [])
 unfolding linesOf
 split-nil n m = rw (drop-nil m, take-nil n)

@@ -1,13 +1,12 @@
 -- Whole lines of an input, and what follows them. Assumes nothing.
-use Prim.Native.Nat.{ℕ, suc, _≤_}
+use Prim.Native.Nat.{ℕ, zero, suc, _≤_}
 use mathlib.Core.Path.{_≡_, refl, sym, ap, _∙_}
 use mathlib.Core.Bool.{Bool, true, false, not, cond, _&&_}
-use mathlib.Core.List.{List, [], _∷_, _++_, append-assoc}
+use mathlib.Core.List.{List, [], _∷_, _++_}
 use native.Mathlib.Omega.{arith}
 use borrow.Author.Tests.{eqb-true, eqb-false, ne-eqb, eq-eqb}
 use lib.Dec.{eqb}
-use lib.ListN.{length, take, drop, take-append-drop}
-use lib.Seq.{length-take-le}
+use lib.ListN.{length, take, drop}
 use Rattle.text.specs.Lines.{onto, linesOf}
 use Rattle.text.proofs.Lines.{free, lines-cons}
 use Rattle.trace.specs.Arrivals.{wholeOf}
@@ -60,6 +59,17 @@ unfolding wholeOf
 cut [] = record { within = omega arith; whole = refl; rest = refl }
 cut (b ∷ s) = cut-cons b s (cut s) (cases b s)
 
+-- from any place on, whole lines are whole
+rest-whole : (b : ℕ) (s : List ℕ) → wholeOf (b ∷ s) ≡ length (b ∷ s) → Case b s → wholeOf s ≡ length s
+rest-whole b s h (here e f w) = omega arith
+rest-whole b s h (none e f w) = absurd (omega arith)
+rest-whole b s h (later e w) = omega arith
+
+pub whole-drop : (n : ℕ) (s : List ℕ) → wholeOf s ≡ length s → wholeOf (drop n s) ≡ length (drop n s)
+whole-drop zero s h = h
+whole-drop (suc n) [] h = h
+whole-drop (suc n) (b ∷ s) h = whole-drop n s (rest-whole b s h (cases b s))
+
 -- ---- lines after whole lines
 
 onto-append : (t : Bool) (x : ℕ) (l : List (List ℕ)) (p : List ℕ) (ps q : List (List ℕ)) → l ≡ p ∷ ps
@@ -85,14 +95,6 @@ lines-whole (x ∷ y ∷ a) b h = more (cases x (y ∷ a)) (λ e. lines-whole (y
     more (later e w) i =
         ap (λ (l : List (List ℕ)). cond (eqb x 10) ([] ∷ l) (onto x l)) (i (omega arith))
         ∙ onto-append (eqb x 10) x (linesOf (y ∷ a)) _ _ (linesOf b) (lines-cons a y)
-
--- an input's whole lines, and what follows, with more after it
-pub lines-cut : (s r : List ℕ) → linesOf (s ++ r) ≡ linesOf (take (wholeOf s) s) ++ linesOf (drop (wholeOf s) s ++ r)
-lines-cut s r =
-    let c = cut s in
-    ap (λ (x : List ℕ). linesOf (x ++ r)) (sym (take-append-drop (wholeOf s) s))
-    ∙ ap linesOf (append-assoc (take (wholeOf s) s) (drop (wholeOf s) s) r)
-    ∙ lines-whole (take (wholeOf s) s) (drop (wholeOf s) s ++ r) (c .whole ∙ sym (length-take-le (wholeOf s) s (c .within)))
 
 -- bytes with no line feed
 pub no-feed : (s : List ℕ) → wholeOf s ≡ 0 → free 10 s ≡ true

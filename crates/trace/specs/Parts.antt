@@ -1,16 +1,15 @@
 -- What the private functions state. Assumes nothing.
-use Prim.Native.Nat.{ℕ, _≤_}
+use Prim.Native.Nat.{ℕ}
 use mathlib.Core.Bool.{true}
 use mathlib.Core.List.{List}
 use lib.Dec.{eqb}
-use lib.ListN.{length, getD}
+use lib.ListN.{getD}
 use Rattle.rules.specs.declared.states.State.{State}
 use Rattle.rules.specs.declared.events.Stepped.{Stepped}
 use Rattle.rules.specs.Tools.{pick}
 use Rattle.rules.specs.Fresh.{zeroState, startOf}
 use Rattle.trace.specs.declared.kept.Kept.{Kept}
 use Rattle.trace.specs.Program.{unreadable}
-use Rattle.trace.specs.Chunks.{Lent}
 
 -- what is kept after the start line
 abbrev pub running : State → Kept
@@ -20,10 +19,3 @@ running s = record { started = true; state = s }
 unfoldable pub startFields : ℕ → List ℕ → Stepped
 startFields count words =
     pick (eqb count 3) (startOf (getD words 0 0) (getD words 1 0) (getD words 2 0)) (record { state = zeroState; answer = unreadable })
-
--- there is room for a line, whichever is next
-pub record Roomy (l : Lent) : Type 0 where
-  pub words : 8 ≤ length (l .words)
-  pub marks : 1 ≤ length (l .marks)
-  pub answers : 3 ≤ length (l .answers)
-  pub out : 33 ≤ length (l .out)

@@ -7,7 +7,7 @@ ghost use mathlib.Core.Path.{_≡_};
 ghost use Rattle.trace.specs.Chunks.{lent, advanced, lentAfter};
 
 // Answers lines of `s`, as many as the lists lent have room for, into `out`. The first line of an input goes alone.
-pub fn advance(
+pub(crate) fn advance(
     kept: Kept,
     s: &[u8],
     words: &mut [u32],

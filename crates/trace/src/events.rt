@@ -1,5 +1,5 @@
 // The lines after the first.
-use crate::arriving::least;
+use crate::holding::least;
 use crate::kept::Advanced;
 use crate::kept::Kept;
 use rules::states::State;

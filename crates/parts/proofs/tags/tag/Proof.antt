@@ -2,35 +2,55 @@ use borrow.Author.Needs.{needs}
 use Rattle.parts.proofs.tags.tag.Statement.{statement}
 use Rattle.parts.proofs.tags.tag.Tie as tie
 
-is-free-requires : tie.Need-is-free-requires
-is-free-requires c κs = search needs
+mul-busy : tie.Need-mul-busy
+mul-busy c = search needs
 
-mul-either : tie.Need-mul-either
-mul-either c = search needs
+cast-busy : tie.Need-cast-busy
+cast-busy c = search needs
 
-cast-either : tie.Need-cast-either
-cast-either c = search needs
+add-busy : tie.Need-add-busy
+add-busy c = search needs
 
-add-either : tie.Need-add-either
-add-either c = search needs
+add-busy-2 : tie.Need-add-busy-2
+add-busy-2 c = search needs
 
-add-either-2 : tie.Need-add-either-2
-add-either-2 c = search needs
+enum-told : tie.Need-enum-told
+enum-told c = search needs
 
-either-requires : tie.Need-either-requires
-either-requires c κs = search needs
+enum-told-2 : tie.Need-enum-told-2
+enum-told-2 c = search needs
+
+enum-told-3 : tie.Need-enum-told-3
+enum-told-3 c = search needs
+
+enum-told-4 : tie.Need-enum-told-4
+enum-told-4 c = search needs
 
 returns : tie.Need-returns
-returns c = cc
+returns c = search needs
+
+returns-2 : tie.Need-returns-2
+returns-2 c = rw (c .enum-told2 .given .1)
+
+returns-3 : tie.Need-returns-3
+returns-3 c = rw (c .enum-told3 .given .1)
+
+returns-4 : tie.Need-returns-4
+returns-4 c = rw (c .enum-told4 .given .1)
 
 pub tag-spec : {M : Type 1} → statement M
 tag-spec =
     tie.close
     (tie.spec
-    is-free-requires
-    mul-either
-    cast-either
-    add-either
-    add-either-2
-    either-requires
-    returns)
+    mul-busy
+    cast-busy
+    add-busy
+    add-busy-2
+    enum-told
+    enum-told-2
+    enum-told-3
+    enum-told-4
+    returns
+    returns-2
+    returns-3
+    returns-4)
