@@ -1,12 +1,11 @@
 -- A delivery and a drop keep the invariant. Assumes nothing.
 use Prim.Native.Nat.{ℕ, _+_, _≤_, _<_}
 use mathlib.Core.Path.{_≡_, refl, ap, subst, sym}
-use mathlib.Core.Bool.{Bool, true, false, _||_}
+use mathlib.Core.Bool.{Bool, true, false, _||_, cond as pick}
 use native.Mathlib.Omega.{arith}
 use borrow.Author.Tests.{eq-eqb}
 use lib.Dec.{eqb}
 use Rattle.coherence.specs.Types.{Cell, MessageKind, Tokens, OwnershipAck, DeletionAck, Message, State, Stepped}
-use Rattle.rules.specs.Tools.{pick}
 use Rattle.rules.specs.States.{slotAt, freeMessage, bears}
 use Rattle.rules.specs.WellFormed.{inCells, held, borne}
 use Rattle.rules.specs.Cells.{received, unbacked, unblocked}

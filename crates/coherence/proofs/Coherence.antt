@@ -61,7 +61,7 @@ module _ (c l n : ℕ) (begun : Started c l n) (es : List Event) where
 
   -- Dropping any message, tokens or an acknowledgment, changes no cell and no serial.
   -- So with a message lost any list of reads and writes is answered as with the same message still on its way.
-  -- Once it is delivered the two differ: before a recreation of its line it may have an effect, after one it has none (`late-token`).
+  -- Once it is delivered the two can differ: before a recreation of its line it may have an effect, after one it has none (`late-token`).
   pub slow-or-lost : SlowOrLost (after c l n es)
   slow-or-lost = let g = good c l n begun es in lost-after (after c l n es) (g .sized) (g .well)
 

@@ -12,10 +12,10 @@ use Rattle.coherence.specs.Histories.{Overtaken, emptiedBy, stays}
 use Rattle.rules.specs.States.{slotAt, serialAt, isFree, bears, withCell}
 use Rattle.rules.specs.Cells.{withWant, written}
 use Rattle.rules.specs.Refusals.{slotted, delivering, freeAt, cellOf, table, tableOf, given, refusal}
-use Rattle.rules.specs.Effects.{emptied, writeOf, sendOf, wantOf, delivered, replyOf, deliverOf, recreateOf, effect, stepOf}
+use Rattle.rules.specs.Effects.{emptied, writeOf, sendOf, wantOf, deliverOf, recreateOf, effect, stepOf}
 use Rattle.rules.specs.Runs.{runOf, answersOf}
 use Rattle.rules.proofs.Laws.Bools.{clash, split, and-both}
-use Rattle.rules.proofs.Laws.Views.{Sized, same-cell, kept-slot}
+use Rattle.rules.proofs.Laws.Views.{Sized, kept-slot}
 use Rattle.rules.proofs.Laws.Bears.{bears-not}
 use Rattle.rules.proofs.Keeps.Well.{Well, well-formed}
 use Rattle.rules.proofs.Keeps.Accepted.{Named, Sends, Timeout}
@@ -119,7 +119,7 @@ late-accepted s e w h f = rw (well-formed w, le-ltb 63 (e .amount) (omega arith)
 
 pub late-delivery : {s : State} → Well s → (e : Event) (m : Message) → Late s (e .amount) m
     → delivering (e .kind) ≡ true → stepOf s e ≡ emptied s (e .amount)
-unfolding refusal effect deliverOf delivered replyOf
+unfolding refusal effect deliverOf
 late-delivery {s} w e m h k =
     let k3 = eqb-true (e .kind) 3 k in
     let it = slotAt s (e .amount) in
@@ -128,4 +128,4 @@ late-delivery {s} w e m h k =
     subst (λ (x : Message). eqb (x .serial .0) (serialAt s (x .line)) ≡ false) (sym (h .is)) (h .stale) in
     step-effect s e (ap (λ j. given (tableOf s e j)) k3 ∙ late-accepted s e w (h .slot) f)
     ∙ ap (effect s e) k3
-    ∙ rw q (ap (λ t. emptied t (e .amount)) (same-cell s (it .line) (it .destination)))
+    ∙ rw q

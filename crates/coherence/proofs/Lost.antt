@@ -3,11 +3,10 @@ use Prim.Native.Nat.{ℕ}
 use mathlib.Core.Path.{_≡_, refl, sym, ap, ap₂, subst, _∙_}
 use mathlib.Core.List.{List, [], _∷_}
 use lib.ListN.{length-set}
-use mathlib.Core.Bool.{Bool, true, false, _||_}
+use mathlib.Core.Bool.{Bool, true, false, _||_, cond as pick}
 use borrow.Author.Tests.{eqb-true}
 use lib.Dec.{eqb}
 use Rattle.coherence.specs.Types.{Message, State, Event}
-use Rattle.rules.specs.Tools.{pick}
 use Rattle.rules.specs.States.{cellAt, serialAt, withCell, withSlot}
 use Rattle.rules.specs.WellFormed.{wellFormed}
 use Rattle.rules.specs.Refusals.{reading, writing, dropping, table, tableOf, given, refusal}

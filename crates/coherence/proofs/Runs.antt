@@ -2,13 +2,12 @@
 use Prim.Native.Nat.{ℕ, zero, suc, _<_}
 use mathlib.Core.Path.{_≡_, refl, sym, subst, _∙_}
 use mathlib.Core.Logic.{_≢_}
-use mathlib.Core.Bool.{true, false}
+use mathlib.Core.Bool.{true, false, cond as pick}
 use mathlib.Core.List.{List, [], _∷_, _++_}
 use native.Mathlib.Omega.{arith}
 use lib.ListN.{length, getD}
 use Rattle.coherence.specs.Types.{State, Event, Answer}
 use Rattle.coherence.specs.Histories.{after, answers, wrote, lastWriteAfter, lastWrite}
-use Rattle.rules.specs.Tools.{pick}
 use Rattle.rules.specs.States.{cellAt}
 use Rattle.rules.specs.WellFormed.{sizesFine}
 use Rattle.rules.specs.Fresh.{sizes, fresh, startOf}

@@ -1,12 +1,11 @@
 -- A send keeps the invariant, without the owner token and with it. Assumes nothing.
 use Prim.Native.Nat.{ℕ, _-_, _≤_}
 use mathlib.Core.Path.{_≡_, refl, _∙_}
-use mathlib.Core.Bool.{Bool, true, false, _&&_}
+use mathlib.Core.Bool.{Bool, true, false, _&&_, cond as pick}
 use native.Mathlib.Omega.{arith}
 use borrow.Author.Tests.{eq-eqb}
 use lib.Dec.{eqb, ltb}
 use Rattle.coherence.specs.Types.{Cell, State, Event}
-use Rattle.rules.specs.Tools.{pick}
 use Rattle.rules.specs.States.{cellAt, slotAt, serialAt}
 use Rattle.rules.specs.WellFormed.{held}
 use Rattle.rules.specs.Refusals.{cellOf, lowestFree}

@@ -1,12 +1,11 @@
 -- Every step keeps the invariant, with the last words as the step leaves them. Assumes nothing.
 use Prim.Native.Nat.{ℕ}
 use mathlib.Core.Path.{refl, sym, subst}
-use mathlib.Core.Bool.{_&&_}
+use mathlib.Core.Bool.{_&&_, cond as pick}
 use native.Mathlib.Omega.{arith}
 use borrow.Author.Tests.{eqb-true}
 use lib.Dec.{eqb}
 use Rattle.coherence.specs.Types.{Want, State, Event, Stepped}
-use Rattle.rules.specs.Tools.{pick}
 use Rattle.rules.specs.Cells.{withWant}
 use Rattle.rules.specs.Refusals.{writing, cellOf, refusal}
 use Rattle.rules.specs.Effects.{wantOf, stepOf}

@@ -1,14 +1,13 @@
 -- A step looks at the words of an event that its kind uses, and at no other. Assumes nothing.
 use Prim.Native.Nat.{ℕ, _≤_}
 use mathlib.Core.Path.{_≡_, refl, sym, ap, ap₂, _∙_}
-use mathlib.Core.Bool.{Bool, true, not}
+use mathlib.Core.Bool.{Bool, true, not, cond as pick}
 use mathlib.Core.List.{List, _∷_}
 use borrow.Author.Tests.{ltb-false}
 use lib.Dec.{eqb, ltb}
 use lib.ListN.{getD}
 use Rattle.coherence.specs.Types.{State, Event, Stepped}
 use Rattle.coherence.specs.Events.{usedBy, UnusedWordsUnseen}
-use Rattle.rules.specs.Tools.{pick}
 use Rattle.rules.specs.WellFormed.{wellFormed}
 use Rattle.rules.specs.Refusals.{sending, slotted, Row, row, table, tableOf, given, refusal}
 use Rattle.rules.specs.Effects.{answered, readOf, writeOf, sentCell, sendOf, deliverOf, wantOf, recreateOf, effect, stepOf}

@@ -2,13 +2,12 @@
 use Prim.Native.Nat.{ℕ, _+_, _≤_, _<_}
 use mathlib.Core.Path.{_≡_, refl, sym, ap, subst, _∙_}
 use mathlib.Core.Logic.{_≢_}
-use mathlib.Core.Bool.{true}
+use mathlib.Core.Bool.{true, cond as pick}
 use native.Mathlib.Omega.{arith}
 use native.Mathlib.Decide.{ℕ-discrete}
 use borrow.Author.Tests.{eq-eqb, ne-eqb}
 use lib.Dec.{eqb}
 use Rattle.coherence.specs.Types.{State, Event}
-use Rattle.rules.specs.Tools.{pick}
 use Rattle.rules.specs.States.{cellAt, slotAt, serialAt, withCell}
 use Rattle.rules.specs.WellFormed.{counted, inCells, inMessages, held, borne, tokensOf}
 use Rattle.rules.specs.Cells.{ableToWrite, written}

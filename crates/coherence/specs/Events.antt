@@ -2,10 +2,9 @@
 use Prim.Native.Nat.{ℕ}
 use mathlib.Core.Path.{_≡_}
 use mathlib.Core.Logic.{_≢_}
-use mathlib.Core.Bool.{_||_}
+use mathlib.Core.Bool.{_||_, cond as pick}
 use mathlib.Core.List.{List, [], _∷_}
 use Rattle.coherence.specs.Types.{State, Event}
-use Rattle.rules.specs.Tools.{pick}
 use Rattle.rules.specs.Refusals.{reading, writing, sending, slotted, wantingRead, wantingWrite, timeout}
 use Rattle.rules.specs.Effects.{stepOf}
 

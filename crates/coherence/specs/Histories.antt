@@ -1,12 +1,11 @@
 -- Runs from a start, and what is said of a list of events and their answers. Assumes nothing.
 use Prim.Native.Nat.{ℕ, _<_}
 use mathlib.Core.Path.{_≡_}
-use mathlib.Core.Bool.{Bool, true, false, not, _&&_, _||_}
+use mathlib.Core.Bool.{Bool, true, false, not, _&&_, _||_, cond as pick}
 use mathlib.Core.List.{List, [], _∷_}
 use lib.Dec.{eqb}
 use lib.ListN.{getD, take}
 use Rattle.coherence.specs.Types.{State, Event, Answer}
-use Rattle.rules.specs.Tools.{pick}
 use Rattle.rules.specs.States.{slotAt}
 use Rattle.rules.specs.Fresh.{startOf}
 use Rattle.rules.specs.Refusals.{reading, writing, timeout, slotted, freeAt}

@@ -1,9 +1,8 @@
 -- What an event leaves in the one cell and the one slot that it touches, for every value that its parts can have. Assumes nothing.
 use Prim.Native.Nat.{ℕ, _+_, _%_}
-use mathlib.Core.Bool.{Bool, _||_, not}
+use mathlib.Core.Bool.{Bool, _||_, not, cond as pick}
 use lib.Dec.{eqb, ltb}
 use Rattle.parts.specs.Types.{Want, Read, Write, Cell, Message, Event, Arrival}
-use Rattle.rules.specs.Tools.{pick}
 use Rattle.rules.specs.Cells.{withWant, written}
 use Rattle.rules.specs.Refusals.{writing, dropping, wantingRead, wantingWrite}
 use Rattle.rules.specs.Effects.{discarded, arrive}
@@ -16,7 +15,7 @@ wantedBy k w = pick (wantingRead k) Read (pick (wantingWrite k) Write w)
 unfoldable pub touchedCell : Event → ℕ → Cell → Cell
 touchedCell e k x = withWant (wantedBy k (x .want)) (written (pick (writing k) (e .word) (x .word)) x)
 
--- the event with the low bytes of the numbers that a message holds; an accepted send has no others
+-- the event with the low bytes of the numbers that a message holds; those of an accepted send fit a byte
 abbrev pub cut : Event → Event
 cut e =
     record {

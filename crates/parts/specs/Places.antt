@@ -1,8 +1,7 @@
 -- Where the parts of a state stand in their arrays. Assumes nothing.
 use Prim.Native.Nat.{ℕ, _+_, _*_}
-use mathlib.Core.Bool.{_&&_}
+use mathlib.Core.Bool.{_&&_, cond as pick}
 use lib.Dec.{ltb}
-use Rattle.rules.specs.Tools.{pick}
 
 -- the place of a line's serial; that of line 0 where there is no such line
 unfoldable pub rowOf : ℕ → ℕ

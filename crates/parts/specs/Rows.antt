@@ -1,42 +1,46 @@
 -- The number of an event from the parts that it names: the table, over what these parts show. Assumes nothing.
 use Prim.Native.Nat.{ℕ}
-use mathlib.Core.Bool.{Bool, true, false, _||_}
+use mathlib.Core.Bool.{Bool, true, false, _||_, cond as pick}
 use mathlib.Core.List.{List, [], _∷_}
 use lib.Dec.{eqb, ltb}
 use lib.ListN.{getD}
 use Rattle.parts.specs.Types.{Cell, Sizes, Event}
-use Rattle.rules.specs.Tools.{pick}
 use Rattle.rules.specs.Cells.{zeroCell}
 use Rattle.rules.specs.Fresh.{sizes}
-use Rattle.rules.specs.Refusals.{Row, Seen, sight, table, given, slotted, sending}
+use Rattle.rules.specs.Refusals.{Row, Seen, table, given, slotted, sending}
 use Rattle.parts.specs.Nines.{nth}
 
--- the rows before number n, and those from n on
+-- of rows whose numbers ascend: those before number n
 unfoldable pub before : ℕ → List Row → List Row
 before n [] = []
 before n (r ∷ rs) = pick (ltb (r .number) n) (r ∷ before n rs) []
 
+-- and those from n on
 unfoldable pub from : ℕ → List Row → List Row
 from n [] = []
 from n (r ∷ rs) = pick (ltb (r .number) n) (from n rs) (r ∷ rs)
 
--- what is seen of a slot: whether it is free
+-- what is seen in a well formed state: these six, in the order of `Seen`
+abbrev pub sight : Sizes → Cell → Bool → ℕ → Bool → (ℕ → Cell) → Seen
+sight z x b i n cs = record { formed = true; sizes = z; cell = x; slotFree = b; lowestSlot = i; nextBorne = n; cells = cs }
+
+-- what is seen of a slot: whether it is free; the rest stands for what no row of such an event looks at
 abbrev pub slotSight : Bool → Seen
-slotSight b = sight true (sizes 0 0 0) zeroCell b 0 false (λ _. zeroCell)
+slotSight b = sight (sizes 0 0 0) zeroCell b 0 false (λ _. zeroCell)
 
 -- a delivery, or a drop, which has the same number; `tags` has 0 for each free slot
 unfoldable pub slotRefusal : List ℕ → Event → ℕ
 slotRefusal tags e = given (table (slotSight (eqb (getD tags (e .amount) 0) 0)) e 3)
 
--- what is seen of a cell x, with the lowest free slot i
+-- what is seen of a cell x, with the lowest free slot i; the rest stands for what is not looked at
 abbrev pub cellSight : Sizes → Cell → ℕ → Seen
-cellSight z x i = sight true z x false i false (λ _. zeroCell)
+cellSight z x i = sight z x false i false (λ _. zeroCell)
 
 -- a send
 unfoldable pub sendRefusal : Sizes → Event → Cell → ℕ → ℕ
 sendRefusal z e x i = given (table (cellSight z x i) e 2)
 
--- what an event of kind k has from the cell x alone: 13 to 16
+-- what an event of kind k has from the cell x and the total n alone: 13 to 16
 unfoldable pub ownRefusal : Event → ℕ → ℕ → Cell → ℕ
 ownRefusal e k n x = given (from 13 (before 17 (table (cellSight (sizes 0 0 n) x 0) e k)))
 
@@ -44,9 +48,9 @@ ownRefusal e k n x = given (from 13 (before 17 (table (cellSight (sizes 0 0 n) x
 unfoldable pub cellRefusal : Sizes → Event → ℕ → Cell → ℕ
 cellRefusal z e k x = pick (slotted k || sending k) 0 (given (before 17 (table (cellSight z x 0) e k)))
 
--- what is seen of a line: whether a message of it bears the next serial, and its nine cells
+-- what is seen of a line: whether a message of it bears the next serial, and its nine cells; the rest stands for what is not looked at
 abbrev pub lineSight : Bool → List Cell → Seen
-lineSight borne nine = sight true (sizes 0 0 0) zeroCell false 0 borne (nth nine)
+lineSight borne nine = sight (sizes 0 0 0) zeroCell false 0 borne (nth nine)
 
 -- a timeout: its number from 17 on; kinds 8 and 9 have the same as kind 7
 unfoldable pub renewalRefusal : Event → Bool → List Cell → ℕ

@@ -1,12 +1,12 @@
 -- What the slots hold, beside the state. Assumes nothing.
 use Prim.Native.Nat.{ℕ, _+_, _*_, _<_}
-use mathlib.Core.Bool.{Bool, not}
+use mathlib.Core.Bool.{Bool, not, cond as pick}
 use mathlib.Core.Path.{_≡_}
 use mathlib.Core.List.{List}
 use lib.Dec.{eqb}
 use lib.ListN.{getD}
 use Rattle.parts.specs.Types.{MessageKind, Message}
-use Rattle.rules.specs.Tools.{pick, allTo, firstTo}
+use Rattle.rules.specs.Tools.{allTo, firstTo}
 use Rattle.rules.specs.States.{freeMessage, isFree}
 
 -- 0 for a free slot, else a number of its own for each line and serial

@@ -180,7 +180,7 @@ fn arrive(n: Count, i: u32, x: Cell, m: Message) -> Arrival
     }
 }
 
-// A drop, or a message that is stale, or one whose count does not fit.
+// A drop, or a message whose serial is not the line's, or one whose count does not fit.
 fn lost(kind: u32, q: Serial, x: Cell, m: Message) -> bool
     ensures { λ r. ⌜ r ≡ lostOf kind (q .0) x m ⌝ }
 {

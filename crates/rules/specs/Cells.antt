@@ -1,9 +1,9 @@
 -- A cell, and each way in which it changes. Assumes nothing.
 use Prim.Native.Nat.{ℕ, _+_, _-_}
-use mathlib.Core.Bool.{Bool, true, false, _&&_}
+use mathlib.Core.Bool.{Bool, true, false, _&&_, cond as pick}
 use lib.Dec.{eqb, ltb}
 use Rattle.rules.specs.Types.{Cell, Message, Want, Nothing, Read, Write}
-use Rattle.rules.specs.Tools.{pick, when}
+use Rattle.rules.specs.Tools.{when}
 
 -- the empty cell
 abbrev pub zeroCell : Cell
@@ -66,7 +66,7 @@ backUp c = withBackup true (c .word) (withRole false (c .blocked) c)
 abbrev pub take : ℕ → Cell → Cell
 take a c = withTokens (c .tokens .0 + a) c
 
--- the same where the sum fits a byte; as it came where it does not (no state that is well formed has such a cell)
+-- the same where the sum fits a byte, else the cell as it came; what the method `take` gives (in a well formed state no cell and no message has more than 64)
 unfoldable pub takeFitting : ℕ → Cell → Cell
 takeFitting a c = when (ltb (c .tokens .0 + a) 256) (take a) c
 

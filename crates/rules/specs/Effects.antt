@@ -1,9 +1,9 @@
 -- What each event does when no number refuses it (document 01, "What each event does"). Assumes nothing.
 use Prim.Native.Nat.{ℕ, _*_}
-use mathlib.Core.Bool.{Bool, false}
+use mathlib.Core.Bool.{Bool, false, cond as pick}
 use lib.Dec.{eqb, ltb}
 use Rattle.rules.specs.Types.{Want, Read, Write, Cell, MessageKind, Free, Tokens, OwnershipAck, DeletionAck, Message, State, Event, Answer, Arrival, Stepped}
-use Rattle.rules.specs.Tools.{pick, when, fillTo}
+use Rattle.rules.specs.Tools.{when, fillTo}
 use Rattle.rules.specs.States.{freeMessage, isFree, cellAt, slotAt, serialAt, withCells, withCell, withSlot, withSerial}
 use Rattle.rules.specs.Cells.{withWant, written, backUp, give, received, unbacked, unblocked, cleared, recreated, settled}
 use Rattle.rules.specs.Refusals.{reading, writing, sending, delivering, dropping, wantingRead, wantingWrite, cellOf, lowestFree, next, lowest, refusal}
@@ -84,7 +84,7 @@ ack k q m =
 abbrev pub arrival : Cell → MessageKind → Answer → Arrival
 arrival x k a = record { cell = x; reply = k; answer = a }
 
--- discarded: nothing else happens
+-- an acknowledgment that is discarded: the cell as it was, no reply
 abbrev pub discarded : Cell → Arrival
 discarded x = arrival x Free (answer 0 0 64)
 
@@ -96,10 +96,6 @@ arrive n i x m Tokens =
 arrive n i x m OwnershipAck = pick (x .backup) (arrival (unbacked x) DeletionAck (answer 0 1 i)) (discarded x)
 arrive n i x m DeletionAck = pick (x .blocked) (arrival (unblocked x) Free (answer 0 1 64)) (discarded x)
 
--- a message whose serial is not the line's serial q is discarded
-unfoldable pub delivered : ℕ → ℕ → ℕ → Cell → Message → Arrival
-delivered n q i x m = pick (eqb (m .serial .0) q) (arrive n i x m (m .kind)) (discarded x)
-
 -- what then stands in the slot: nothing, or the reply to m
 unfoldable pub replyOf : MessageKind → ℕ → Message → Message
 replyOf k q m = pick (isFree k) freeMessage (ack k q m)
@@ -108,12 +104,13 @@ replyOf k q m = pick (isFree k) freeMessage (ack k q m)
 abbrev pub leaves : State → ℕ → ℕ → Message → Arrival → Stepped
 leaves s i q m a = record { state = landed s i m (a .cell) (replyOf (a .reply) q m); answer = a .answer }
 
--- deliver empties the slot, and the message arrives
+-- deliver empties the slot; a message whose serial is not the line's is discarded and nothing else happens, another arrives
 unfoldable pub deliverOf : State → Event → Stepped
 deliverOf s e =
     let m = slotAt s (e .amount) in
     let q = serialAt s (m .line) in
-    leaves s (e .amount) q m (delivered (s .sizes .total .0) q (e .amount) (target s m) m)
+    pick (eqb (m .serial .0) q) (leaves s (e .amount) q m (arrive (s .sizes .total .0) (e .amount) (target s m) m (m .kind)))
+    (emptied s (e .amount))
 
 -- want records the want
 unfoldable pub wantOf : State → Event → Want → Stepped
@@ -127,7 +124,7 @@ wordFor cells =
     let b = lowest cells (λ c. c .backup) in
     pick (ltb o 9) (cells o .word) (pick (ltb v 9) (cells v .word) (pick (ltb b 9) (cells b .saved) 0))
 
--- a cell of the line after a recreation: the chosen node's gets n tokens and the word w; every cell loses what it had
+-- a cell of the line after a recreation: it loses tokens, marks and words and keeps its want; the chosen node's then gets n tokens, owner, valid and the word w, and its want ends if it is able to do what it wants
 unfoldable pub afterRecreation : ℕ → ℕ → Bool → Cell → Cell
 afterRecreation n w chosen c = pick chosen (settled n (recreated n w c)) (cleared c)
 
@@ -135,7 +132,7 @@ afterRecreation n w chosen c = pick chosen (settled n (recreated n w c)) (cleare
 abbrev pub recreatedLine : ℕ → ℕ → (ℕ → Cell) → ℕ → Cell
 recreatedLine n node cells j = afterRecreation n (wordFor cells) (eqb j node) (cells j)
 
--- a timeout recreates the line's tokens for the node; messages stay in the pool
+-- a timeout recreates the line's tokens for the node and gives the line its next serial; messages stay in the pool
 unfoldable pub recreateOf : State → Event → Stepped
 recreateOf s e =
     answered
@@ -147,7 +144,7 @@ recreateOf s e =
     0
     64
 
--- the effect of an event of kind k
+-- the effect of an event of kind k (a kind above 9 is refused before)
 unfoldable pub effect : State → Event → ℕ → Stepped
 effect s e k =
     pick (reading k) (readOf s e)

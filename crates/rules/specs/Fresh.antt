@@ -1,9 +1,9 @@
 -- A start (document 01, "A fresh state", and number 19). Assumes nothing.
+use mathlib.Core.Bool.{cond as pick}
 use Prim.Native.Nat.{ℕ, zero, suc, _+_, _*_}
 use mathlib.Core.List.{List}
 use lib.ListN.{replicate, set}
 use Rattle.rules.specs.Types.{Cell, Sizes, State, Stepped}
-use Rattle.rules.specs.Tools.{pick}
 use Rattle.rules.specs.States.{freeMessage}
 use Rattle.rules.specs.Cells.{zeroCell, recreated}
 use Rattle.rules.specs.WellFormed.{sizesFine}

@@ -1,10 +1,10 @@
 -- The numbers 1 to 18 that a step gives back (document 01, "Numbers a call gives back"), as one list. Assumes nothing.
 use Prim.Native.Nat.{ℕ, suc}
-use mathlib.Core.Bool.{Bool, not, _&&_, _||_}
+use mathlib.Core.Bool.{Bool, not, _&&_, _||_, cond as pick}
 use mathlib.Core.List.{List, [], _∷_}
 use lib.Dec.{eqb, leb, ltb}
 use Rattle.rules.specs.Types.{Cell, Sizes, State, Event}
-use Rattle.rules.specs.Tools.{pick, allTo, firstTo}
+use Rattle.rules.specs.Tools.{allTo, firstTo}
 use Rattle.rules.specs.States.{cellAt, slotAt, serialAt, isFree, bears}
 use Rattle.rules.specs.WellFormed.{wellFormed}
 use Rattle.rules.specs.Cells.{isNothing, ableToRead, ableToWrite}
@@ -53,7 +53,7 @@ lostDeletionAck k = eqb k 9
 abbrev pub timeout : ℕ → Bool
 timeout k = lostToken k || lostData k || lostDeletionAck k
 
--- kinds that use a slot; all others use line and node
+-- kinds that use a slot; the other kinds up to 9 use line and node
 abbrev pub slotted : ℕ → Bool
 slotted k = delivering k || dropping k
 
@@ -93,24 +93,26 @@ copyless cells =
 -- what the numbers look at beside the event: whether the state is well formed; its sizes; the cell that the event names; whether the
 -- slot that it names is free; the lowest free slot, or 64; whether a message of its line bears the next serial; its line's cells
 pub record Seen : Type 0 where
-  pub fine : Bool
+  pub formed : Bool
   pub sizes : Sizes
   pub cell : Cell
-  pub free : Bool
-  pub slot : ℕ
-  pub borne : Bool
+  pub slotFree : Bool
+  pub lowestSlot : ℕ
+  pub nextBorne : Bool
   pub cells : ℕ → Cell
-
--- these seven, in that order
-abbrev pub sight : Bool → Sizes → Cell → Bool → ℕ → Bool → (ℕ → Cell) → Seen
-sight f z x b i n cs = record { fine = f; sizes = z; cell = x; free = b; slot = i; borne = n; cells = cs }
 
 -- what an event's numbers look at in a state
 abbrev pub seen : State → Event → Seen
 seen s e =
-    sight (wellFormed s) (s .sizes) (cellOf s e) (freeAt s (e .amount)) (lowestFree s)
-    (not (unborne s (e .line) (next (serialAt s (e .line)))))
-    (cellAt s (e .line))
+    record {
+      formed = wellFormed s;
+      sizes = s .sizes;
+      cell = cellOf s e;
+      slotFree = freeAt s (e .amount);
+      lowestSlot = lowestFree s;
+      nextBorne = not (unborne s (e .line) (next (serialAt s (e .line))));
+      cells = cellAt s (e .line);
+    }
 
 -- a number of the table, and whether it applies
 pub record Row : Type 0 where
@@ -134,30 +136,30 @@ wrongOwner e x = eqb (e .owner) 1 && not (x .owner) || eqb (e .owner) 1 && not (
 abbrev pub causeless : ℕ → Cell → Bool
 causeless k x = lostToken k && isNothing (x .want) || lostData k && not (x .backup) || lostDeletionAck k && not (x .blocked)
 
--- the table, in its order, for an event of kind k
+-- the table, in its order, for an event of kind k; the kind is given apart, and the word `e .kind` is not looked at
 unfoldable pub table : Seen → Event → ℕ → List Row
 table v e k =
-    row 1 (not (v .fine))
+    row 1 (not (v .formed))
     ∷ row 2 (ltb 9 k || sending k && (ltb 1 (e .owner) || ltb 1 (e .full)))
     ∷ row 3 (not (slotted k) && leb (v .sizes .lines) (e .line))
     ∷ row 4 (not (slotted k) && ltb (v .sizes .caches) (e .node) || sending k && ltb (v .sizes .caches) (e .other))
     ∷ row 5 (forCaches k && eqb (e .node) (v .sizes .caches))
-    ∷ row 6 (slotted k && (ltb 63 (e .amount) || v .free))
+    ∷ row 6 (slotted k && (ltb 63 (e .amount) || v .slotFree))
     ∷ row 7 (sending k && eqb (e .node) (e .other))
     ∷ row 8 (sending k && wrongAmount e (v .cell))
     ∷ row 9 (sending k && wrongOwner e (v .cell))
     ∷ row 10 (sending k && (eqb (e .owner) 1 && v .cell .blocked))
     ∷ row 11 (sending k && (eqb (e .full) 1 && not (v .cell .valid)))
-    ∷ row 12 (sending k && eqb (v .slot) 64)
+    ∷ row 12 (sending k && eqb (v .lowestSlot) 64)
     ∷ row 13 (reading k && not (ableToRead (v .cell)) || writing k && not (ableToWrite (v .sizes .total .0) (v .cell)))
     ∷ row 14 ((wantingRead k || wantingWrite k) && not (isNothing (v .cell .want)))
     ∷ row 15 (wantingRead k && ableToRead (v .cell) || wantingWrite k && ableToWrite (v .sizes .total .0) (v .cell))
     ∷ row 16 (causeless k (v .cell))
-    ∷ row 17 (timeout k && v .borne)
+    ∷ row 17 (timeout k && v .nextBorne)
     ∷ row 18 (timeout k && copyless (v .cells))
     ∷ []
 
--- the first number that applies, and 0 only if none does; the numbers ascend, so it is the smallest
+-- the first number that applies, or 0 if none does; the table's numbers ascend, so of it the smallest (`given-smallest` in proofs/Laws/Rows)
 unfoldable pub given : List Row → ℕ
 given [] = 0
 given (r ∷ rs) = pick (r .applies) (r .number) (given rs)

@@ -1,11 +1,10 @@
 -- Runs over a list of events, and the batch (document 01, "Batch and program"). Assumes nothing.
 use Prim.Native.Nat.{ℕ, zero, suc, _*_, _/_, _%_}
-use mathlib.Core.Bool.{not}
+use mathlib.Core.Bool.{not, cond as pick}
 use mathlib.Core.List.{List, [], _∷_, _++_}
 use lib.Dec.{eqb, ltb}
 use lib.ListN.{length, getD, drop}
 use Rattle.rules.specs.Types.{State, Event, Answer, Batched}
-use Rattle.rules.specs.Tools.{pick}
 use Rattle.rules.specs.Effects.{stepOf}
 
 -- the state after the events

@@ -12,7 +12,7 @@ abbrev pub freeMessage : Message
 freeMessage =
     record { kind = Free; line = 0; source = 0; destination = 0; serial = record { 0 = 0 }; tokens = record { 0 = 0 }; owner = false; full = false; word = 0 }
 
--- the cell of a line at a node
+-- the cell of a line at a node, 0 to 8
 unfoldable pub cellAt : State → ℕ → ℕ → Cell
 cellAt s line node = getD (s .cells) (line * 9 + node) zeroCell
 

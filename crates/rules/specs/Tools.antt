@@ -1,13 +1,8 @@
--- Small tools that the rules are written with. Assumes nothing.
+-- Small tools that the rules are written with. `pick test x y` is x where the test passes, else y: the kit's `cond`. Assumes nothing.
 use Prim.Native.Nat.{ℕ, zero, suc, _+_}
-use mathlib.Core.Bool.{Bool, true, false, not, _&&_, _||_}
+use mathlib.Core.Bool.{Bool, true, false, not, _&&_, _||_, cond as pick}
 use mathlib.Core.List.{List, [], _∷_}
 use lib.ListN.{set}
-
--- `pick test x y` is x where the test passes, else y
-abbrev pub pick : {A : Type 0} → Bool → A → A → A
-pick true x y = x
-pick false x y = y
 
 -- `when test f x` is f x where the test passes, else x
 abbrev pub when : {A : Type 0} → Bool → (A → A) → A → A

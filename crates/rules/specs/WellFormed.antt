@@ -1,10 +1,10 @@
 -- When a state is well formed (document 01, "What a state holds"). Assumes nothing.
 use Prim.Native.Nat.{ℕ, _+_}
-use mathlib.Core.Bool.{Bool, not, _&&_}
+use mathlib.Core.Bool.{Bool, not, _&&_, cond as pick}
 use mathlib.Core.List.{[], _∷_}
 use lib.Dec.{eqb, leb, ltb}
 use Rattle.rules.specs.Types.{Cell, MessageKind, Free, Tokens, OwnershipAck, DeletionAck, Message, Sizes, State}
-use Rattle.rules.specs.Tools.{pick, _⇒_, every, allTo, sumTo}
+use Rattle.rules.specs.Tools.{_⇒_, every, allTo, sumTo}
 use Rattle.rules.specs.States.{cellAt, slotAt, serialAt, bears}
 use Rattle.rules.specs.Cells.{isNothing}
 
@@ -50,7 +50,7 @@ unfoldable pub cellFine : Sizes → ℕ → ℕ → Cell → Bool
 cellFine z line node c =
     pick (ltb line (z .lines) && leb node (z .caches)) (cellRules (z .total .0) (eqb node (z .caches)) c) (cellZero c)
 
--- a free slot that is all zero
+-- all of a slot but its kind is zero
 unfoldable pub messageZero : Message → Bool
 messageZero m =
     every
@@ -120,19 +120,19 @@ borne m = m .tokens .0
 unfoldable pub tokensOf : State → ℕ → ℕ
 tokensOf s line = inCells s line held + inMessages s line borne
 
--- a line's serial, in a state
+-- a line's serial is fine, in a state
 abbrev pub serialFineAt : State → ℕ → Bool
 serialFineAt s line = serialFine (s .sizes) line (serialAt s line)
 
--- a node's cell of a line, in a state
+-- a node's cell of a line is fine, in a state
 abbrev pub cellFineAt : State → ℕ → ℕ → Bool
 cellFineAt s line node = cellFine (s .sizes) line node (cellAt s line node)
 
--- the nine cells of a line
+-- the nine cells of a line are fine
 abbrev pub lineFine : State → ℕ → Bool
 lineFine s line = allTo 9 (cellFineAt s line)
 
--- a slot, in a state
+-- a slot is fine, in a state
 abbrev pub slotFine : State → ℕ → Bool
 slotFine s i = messageFine (s .sizes) (slotAt s i) (slotAt s i .kind)
 

@@ -1,6 +1,6 @@
-// A choice with no branch in the code that makes it.
+// One of two numbers, by a test; both are worked out.
+ghost use mathlib.Core.Bool.{cond as pick};
 ghost use mathlib.Core.Path.{_≡_};
-ghost use Rattle.rules.specs.Tools.{pick};
 
 // `a` where the test passes, else `b`.
 pub fn either(test: bool, a: u32, b: u32) -> u32

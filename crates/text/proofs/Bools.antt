@@ -1,7 +1,7 @@
 -- Tests and conditionals. Assumes nothing.
 use Prim.Native.Nat.{ℕ, _≤_}
 use mathlib.Core.Path.{_≡_, refl}
-use mathlib.Core.Bool.{Bool, true, false, cond, _&&_, false≢true}
+use mathlib.Core.Bool.{Bool, true, false, cond as pick, _&&_, false≢true}
 use mathlib.Core.Option.{none, some}
 use borrow.Author.Tests.{leb-true, le-leb}
 use lib.Dec.{leb}
@@ -11,7 +11,7 @@ pub and-both : (x y : Bool) → x && y ≡ true → (x ≡ true) × (y ≡ true)
 and-both true y e = (refl, e)
 and-both false y e = absurd (false≢true e)
 
-pub cond-some : (t : Bool) (m n : ℕ) → cond t (some m) none ≡ some n → t ≡ true
+pub cond-some : (t : Bool) (m n : ℕ) → pick t (some m) none ≡ some n → t ≡ true
 cond-some true m n e = refl
 cond-some false m n e = cc
 

@@ -1,7 +1,7 @@
 -- A run over the lines of a chunk. Assumes nothing.
 use Prim.Native.Nat.{ℕ, suc, _+_, _-_, _≤_, _<_}
 use mathlib.Core.Path.{_≡_, refl, sym, ap, subst, _∙_}
-use mathlib.Core.Bool.{Bool, true, false, cond, _&&_}
+use mathlib.Core.Bool.{Bool, true, false, cond as pick, _&&_}
 use mathlib.Core.List.{List, [], _∷_, _++_, map, append-nil}
 use mathlib.Core.Logic.{_⊎_, inl, inr, ⊎-elim}
 use mathlib.Core.Option.{Option, none, some}
@@ -38,11 +38,11 @@ record Read (o : Option (List ℕ)) (r : Taken) : Type 0 where
   mark : isKnown (exactly 8 o) ≡ eventMark (r .count)
 
 eight : (ns : List ℕ) (t : Bool) → eqb (length ns) 8 ≡ t
-    → (known (cond t (some ns) none) ≡ cond t (sets (replicate 8 0) 0 ns) []) × (isKnown (cond t (some ns) none) ≡ cond t 1 0)
+    → (known (pick t (some ns) none) ≡ pick t (sets (replicate 8 0) 0 ns) []) × (isKnown (pick t (some ns) none) ≡ pick t 1 0)
 eight ns true e = (full ns (eqb-true (length ns) 8 e), refl)
 eight ns false e = (refl, refl)
 
-read-some : (ns : List ℕ) (next : ℕ) (t : Bool) → leb (length ns) 8 ≡ t → Read (some ns) (cond t (filled ns next) (unread next))
+read-some : (ns : List ℕ) (next : ℕ) (t : Bool) → leb (length ns) 8 ≡ t → Read (some ns) (pick t (filled ns next) (unread next))
 unfolding eventWords eventMark
 read-some ns next true b = let p = eight ns (eqb (length ns) 8) refl in record { words = p .0; mark = p .1 }
 read-some ns next false b =
@@ -54,7 +54,7 @@ unfolding packed eventWords eventMark
 read-any none next = record { words = refl; mark = refl }
 read-any (some ns) next = read-some ns next (leb (length ns) 8) refl
 
-next-either : (t : Bool) (ns : List ℕ) (next : ℕ) → (cond t (filled ns next) (unread next)) .next ≡ next
+next-either : (t : Bool) (ns : List ℕ) (next : ℕ) → (pick t (filled ns next) (unread next)) .next ≡ next
 next-either true ns next = refl
 next-either false ns next = refl
 

@@ -1,7 +1,7 @@
 -- The limit of 96 bytes. Assumes nothing.
 use Prim.Native.Nat.{ℕ, _≤_}
 use mathlib.Core.Path.{_≡_, refl}
-use mathlib.Core.Bool.{Bool, true, false, cond}
+use mathlib.Core.Bool.{Bool, true, false, cond as pick}
 use mathlib.Core.List.{List, [], _∷_}
 use mathlib.Core.Option.{Option, none, some}
 use native.Mathlib.Omega.{arith}
@@ -12,7 +12,7 @@ use Rattle.text.specs.Reading.{fieldsOf, allDigits, unpadded, spelled, v
 use Rattle.text.specs.Parts.{numbers}
 use Rattle.text.proofs.Lengths.{afterTabs, short-line}
 
-within : (t : Bool) (o : Option (List ℕ)) (ns : List ℕ) → cond t o none ≡ some ns → o ≡ some ns
+within : (t : Bool) (o : Option (List ℕ)) (ns : List ℕ) → pick t o none ≡ some ns → o ≡ some ns
 within true o ns e = e
 within false o ns e = let z : _≡_ {A = ℕ} 0 1 = cc in absurd (omega arith)
 
@@ -27,19 +27,19 @@ pub just-87 : let l = drop 1 (afterTabs (replicate 8 (52 ∷ 50 ∷ 57 ∷ 52 �
 unfolding afterTabs numbersOf fieldsOf valuesOf valueOf allDigits unpadded spelled
 just-87 = (refl, refl)
 
-limit : (k : ℕ) (l : List ℕ) (o : Option (List ℕ)) → k ≤ 8 → numbers l ≡ o → exactly k (cond (leb (length l) 96) o none) ≡ exactly k o
+limit : (k : ℕ) (l : List ℕ) (o : Option (List ℕ)) → k ≤ 8 → numbers l ≡ o → exactly k (pick (leb (length l) 96) o none) ≡ exactly k o
 limit k l none h e = none-either (leb (length l) 96)
   where
-    none-either : (t : Bool) → exactly k (cond t none none) ≡ none
+    none-either : (t : Bool) → exactly k (pick t none none) ≡ none
     none-either true = refl
     none-either false = refl
 limit k l (some ns) h e = some-either (eqb (length ns) k) refl
   where
-    other : (t : Bool) → eqb (length ns) k ≡ false → exactly k (cond t (some ns) none) ≡ exactly k (some ns)
+    other : (t : Bool) → eqb (length ns) k ≡ false → exactly k (pick t (some ns) none) ≡ exactly k (some ns)
     other true f = refl
     other false f = rw f
 
-    some-either : (u : Bool) → eqb (length ns) k ≡ u → exactly k (cond (leb (length l) 96) (some ns) none) ≡ exactly k (some ns)
+    some-either : (u : Bool) → eqb (length ns) k ≡ u → exactly k (pick (leb (length l) 96) (some ns) none) ≡ exactly k (some ns)
     some-either true f =
         rw (le-leb (length l) 96 (let s = short-line l ns e in let g = eqb-true (length ns) k f in omega arith))
     some-either false f = other (leb (length l) 96) f

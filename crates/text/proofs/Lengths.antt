@@ -1,7 +1,7 @@
 -- A line of k readable numbers has at most 11 k - 1 bytes. Assumes nothing.
 use Prim.Native.Nat.{ℕ, _*_, _≤_, _<_}
 use mathlib.Core.Path.{_≡_, refl, ap}
-use mathlib.Core.Bool.{Bool, true, false, cond}
+use mathlib.Core.Bool.{Bool, true, false, cond as pick}
 use mathlib.Core.List.{List, [], _∷_, _++_}
 use mathlib.Core.Option.{Option, none, some}
 use native.Mathlib.Omega.{arith}
@@ -24,7 +24,7 @@ tabs-onto b [] s e = let z : _≡_ {A = ℕ} 0 1 = cc in absurd (omega arith)
 tabs-onto b (f ∷ fs) s e = let h : f ++ afterTabs fs ≡ s = cc in rw h
 
 tab-cons : (b : ℕ) (s : List ℕ) (t : Bool) → eqb b 9 ≡ t → afterTabs (fieldsOf s) ≡ 9 ∷ s
-    → afterTabs (cond t ([] ∷ fieldsOf s) (onto b (fieldsOf s))) ≡ 9 ∷ (b ∷ s)
+    → afterTabs (pick t ([] ∷ fieldsOf s) (onto b (fieldsOf s))) ≡ 9 ∷ (b ∷ s)
 unfolding afterTabs
 tab-cons b s true e h = rw (eqb-true b 9 e, h)
 tab-cons b s false e h = tabs-onto b (fieldsOf s) s h

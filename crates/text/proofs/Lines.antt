@@ -1,7 +1,7 @@
 -- Where a line ends. Assumes nothing.
 use Prim.Native.Nat.{ℕ, zero, suc, _+_, _≤_, _<_}
 use mathlib.Core.Path.{_≡_, refl, sym, ap, _∙_}
-use mathlib.Core.Bool.{Bool, true, false, not, cond, _&&_}
+use mathlib.Core.Bool.{Bool, true, false, not, cond as pick, _&&_}
 use mathlib.Core.List.{List, [], _∷_, _++_}
 use native.Mathlib.Omega.{arith}
 use native.Mathlib.Numerals.{add-one}
@@ -96,7 +96,7 @@ passed-free (b ∷ f) u p =
 -- ---- the first line, and those after it
 
 lines-tail : (b : ℕ) (s : List ℕ) (t : Bool) → linesOf s ≡ firstLine s ∷ linesOf (drop (passed s) s)
-    → cond t ([] ∷ linesOf s) (onto b (linesOf s)) ≡ cond t [] (b ∷ firstLine s) ∷ linesOf (drop (cond t 1 (suc (passed s))) (b ∷ s))
+    → pick t ([] ∷ linesOf s) (onto b (linesOf s)) ≡ pick t [] (b ∷ firstLine s) ∷ linesOf (drop (pick t 1 (suc (passed s))) (b ∷ s))
 lines-tail b s true e = refl
 lines-tail b s false e = rw e
 
@@ -104,7 +104,7 @@ pub lines-cons : (s : List ℕ) (b : ℕ) → linesOf (b ∷ s) ≡ firstLine (b
 unfolding linesOf firstLine passed
 lines-cons [] b = one (eqb b 10)
   where
-    one : (t : Bool) → cond {A = List (List ℕ)} t ([] ∷ []) ((b ∷ []) ∷ []) ≡ cond {A = List ℕ} t [] (b ∷ []) ∷ linesOf (drop (cond {A = ℕ} t 1 1) (b ∷ []))
+    one : (t : Bool) → pick {A = List (List ℕ)} t ([] ∷ []) ((b ∷ []) ∷ []) ≡ pick {A = List ℕ} t [] (b ∷ []) ∷ linesOf (drop (pick {A = ℕ} t 1 1) (b ∷ []))
     one true = refl
     one false = refl
 lines-cons (c ∷ s) b = lines-tail b (c ∷ s) (eqb b 10) (lines-cons s c)

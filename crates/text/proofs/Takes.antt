@@ -1,7 +1,7 @@
 -- Reading a line field by field. Assumes nothing.
 use Prim.Native.Nat.{ℕ, suc, _+_, _≤_, _<_}
 use mathlib.Core.Path.{_≡_, refl, sym, ap, _∙_}
-use mathlib.Core.Bool.{Bool, true, false, cond, false≢true}
+use mathlib.Core.Bool.{Bool, true, false, cond as pick, false≢true}
 use mathlib.Core.List.{List, [], _∷_, _++_}
 use mathlib.Core.Option.{Option, none, some}
 use native.Mathlib.Omega.{arith}
@@ -26,7 +26,7 @@ use Rattle.text.proofs.Lengths.{short-line}
 unfoldable pub withRest : ℕ → List ℕ → Option (List ℕ) → ℕ → Taken
 withRest count words none next = unread next
 withRest count words (some ns) next =
-    cond (leb (count + length ns) 8) (record { count = count + length ns; words = sets words count ns; next = next }) (unread next)
+    pick (leb (count + length ns) 8) (record { count = count + length ns; words = sets words count ns; next = next }) (unread next)
 
 rest-both : (count : ℕ) (words : List ℕ) (v : ℕ) (o : Option (List ℕ)) (next : ℕ) →
     withRest count words (both (some v) o) next ≡ withRest (count + 1) (set words count v) o next
@@ -42,7 +42,7 @@ rest-start none next = refl
 rest-start (some ns) next = rw zero-add
 
 -- the length of a line decides nothing
-few : (ns : List ℕ) (t : Bool) (next : ℕ) → (length ns ≤ 8 → t ≡ true) → packed (cond t (some ns) none) next ≡ packed (some ns) next
+few : (ns : List ℕ) (t : Bool) (next : ℕ) → (length ns ≤ 8 → t ≡ true) → packed (pick t (some ns) none) next ≡ packed (some ns) next
 unfolding packed
 few ns true next h = refl
 few ns false next h =
@@ -52,10 +52,10 @@ few ns false next h =
     over true e = absurd (false≢true (h (leb-true _ _ e)))
     over false e = leb-false _ _ e
 
-any-length : (l : List ℕ) (o : Option (List ℕ)) (next : ℕ) → numbers l ≡ o → packed (cond (leb (length l) 96) o none) next ≡ packed o next
+any-length : (l : List ℕ) (o : Option (List ℕ)) (next : ℕ) → numbers l ≡ o → packed (pick (leb (length l) 96) o none) next ≡ packed o next
 any-length l none next e = same (leb (length l) 96)
   where
-    same : (t : Bool) → packed (cond t none none) next ≡ packed none next
+    same : (t : Bool) → packed (pick t none none) next ≡ packed none next
     same true = refl
     same false = refl
 any-length l (some ns) next e =

@@ -1,7 +1,7 @@
 -- The number of a field. Assumes nothing.
 use Prim.Native.Nat.{ℕ, suc, _+_, _-_, _*_, _^_, _≤_, _<_}
 use mathlib.Core.Path.{_≡_, refl, sym, ap, subst, _∙_}
-use mathlib.Core.Bool.{Bool, true, false, not, cond, _&&_, and-false, false≢true}
+use mathlib.Core.Bool.{Bool, true, false, not, cond as pick, _&&_, and-false, false≢true}
 use mathlib.Core.List.{List, [], _∷_, _++_}
 use mathlib.Core.Option.{Option, none, some}
 use native.Mathlib.Omega.{arith}
@@ -113,11 +113,11 @@ ten-bytes f n e =
 
 -- ---- fields that are not readable
 
-no-third : (l m z : Bool) (o : Option ℕ) → cond (l && false && m && z) o none ≡ none
+no-third : (l m z : Bool) (o : Option ℕ) → pick (l && false && m && z) o none ≡ none
 no-third true m z o = refl
 no-third false m z o = refl
 
-no-fourth : (l z : Bool) (o : Option ℕ) → cond (l && false && z) o none ≡ none
+no-fourth : (l z : Bool) (o : Option ℕ) → pick (l && false && z) o none ≡ none
 no-fourth true z o = refl
 no-fourth false z o = refl
 

@@ -1,7 +1,7 @@
 -- What the private functions state. Assumes nothing.
 use Prim.Native.Nat.{ℕ, zero, suc, _+_, _-_, _*_, _%_, _<_, _≤_}
 use mathlib.Core.Path.{_≡_}
-use mathlib.Core.Bool.{Bool, true, cond, _&&_}
+use mathlib.Core.Bool.{Bool, true, cond as pick, _&&_}
 use mathlib.Core.List.{List, [], _++_}
 use mathlib.Core.Option.{Option, none, some}
 use lib.Dec.{eqb}
@@ -75,12 +75,12 @@ atEnd t = eqb (length (firstLine t)) 0
 -- the line whose last number ends at a place
 unfoldable pub finished : List ℕ → ℕ → ℕ → List ℕ → Taken
 finished s end count words =
-    cond (atEnd (drop end s)) (record { count = count; words = words; next = end + passed (drop end s) })
+    pick (atEnd (drop end s)) (record { count = count; words = words; next = end + passed (drop end s) })
     (unread (end + passed (drop end s)))
 
 -- the words of a line of so many numbers, and its mark: eight numbers are an event
 unfoldable pub eventWords : ℕ → List ℕ → List ℕ
-eventWords count w = cond (eqb count 8) w []
+eventWords count w = pick (eqb count 8) w []
 
 unfoldable pub eventMark : ℕ → ℕ
-eventMark count = cond (eqb count 8) 1 0
+eventMark count = pick (eqb count 8) 1 0

@@ -1,7 +1,7 @@
 -- One batch over the events among lines answers as the lines do one after the other. Assumes nothing.
 use Prim.Native.Nat.{ℕ, suc, _+_, _-_, _*_, _/_, _%_, _≤_, _<_, min}
 use mathlib.Core.Path.{_≡_, refl, sym, ap, _∙_}
-use mathlib.Core.Bool.{Bool, true, false, cond}
+use mathlib.Core.Bool.{Bool, true, false, cond as pick}
 use mathlib.Core.List.{List, [], _∷_, _++_, map}
 use mathlib.Core.Option.{Option, none, some}
 use native.Mathlib.Omega.{arith}
@@ -30,7 +30,7 @@ exactly-eight : (o : Option (List ℕ)) (ns : List ℕ) → exactly 8 o ≡ some
 exactly-eight none ns e = let z : _≡_ {A = ℕ} 0 1 = cc in absurd (omega arith)
 exactly-eight (some ms) ns e = by (eqb (length ms) 8) refl e
   where
-    by : (t : Bool) → eqb (length ms) 8 ≡ t → cond t (some ms) none ≡ some ns → length ns ≡ 8
+    by : (t : Bool) → eqb (length ms) 8 ≡ t → pick t (some ms) none ≡ some ns → length ns ≡ 8
     by true f e = let z : ms ≡ ns = cc in ap length (sym z) ∙ eqb-true _ _ f
     by false f e = let z : _≡_ {A = ℕ} 0 1 = cc in absurd (omega arith)
 

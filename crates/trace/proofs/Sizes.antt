@@ -1,7 +1,7 @@
 -- How far one call goes. Assumes nothing.
 use Prim.Native.Nat.{ℕ, zero, suc, _*_, _≤_, min}
 use mathlib.Core.Path.{_≡_}
-use mathlib.Core.Bool.{Bool, true, false, cond}
+use mathlib.Core.Bool.{Bool, true, false, cond as pick}
 use mathlib.Core.List.{List, [], _∷_}
 use native.Mathlib.Omega.{arith}
 use lib.Dec.{eqb}
@@ -26,7 +26,7 @@ printed-short (l ∷ ls) k =
     let e = length-append (lineText (lineDoes k l .answer)) (printedBy (keptAfter k l) ls) in
     omega arith
 
-bounds : (n m : ℕ) (t : Bool) → n ≤ m → cond t 1 (suc n) ≤ suc m
+bounds : (n m : ℕ) (t : Bool) → n ≤ m → pick t 1 (suc n) ≤ suc m
 bounds n m true h = omega arith
 bounds n m false h = omega arith
 
@@ -40,7 +40,7 @@ unfolding passed
 passed-least [] = omega arith
 passed-least (b ∷ s) = least (passed s) (eqb b 10)
   where
-    least : (n : ℕ) (t : Bool) → min 1 (suc (length s)) ≤ cond t 1 (suc n)
+    least : (n : ℕ) (t : Bool) → min 1 (suc (length s)) ≤ pick t 1 (suc n)
     least n true = omega arith
     least n false = omega arith
 

@@ -1,7 +1,7 @@
 -- The start line. Assumes nothing.
 use Prim.Native.Nat.{ℕ, _+_, _/_, _≤_, _<_, min}
 use mathlib.Core.Path.{_≡_, refl, sym, ap, subst, _∙_}
-use mathlib.Core.Bool.{Bool, true, false, cond}
+use mathlib.Core.Bool.{Bool, true, false, cond as pick}
 use mathlib.Core.List.{List, [], _∷_, append-nil}
 use mathlib.Core.Option.{Option, none, some}
 use native.Mathlib.Omega.{arith}
@@ -65,7 +65,7 @@ three (a ∷ b ∷ c ∷ []) h = refl
 three (a ∷ b ∷ c ∷ d ∷ ns) h = absurd (omega arith)
 
 fields-some : (ns : List ℕ) (next : ℕ) (t u : Bool) → leb (length ns) 8 ≡ t → eqb (length ns) 3 ≡ u
-    → startFields (packed (some ns) next .count) (packed (some ns) next .words) ≡ startLine (cond u (some ns) none)
+    → startFields (packed (some ns) next .count) (packed (some ns) next .words) ≡ startLine (pick u (some ns) none)
 unfolding packed startFields startLine
 fields-some ns next true true e f = rw (e, f) (three ns (eqb-true (length ns) 3 f))
 fields-some ns next true false e f = rw (e, f)

@@ -1,14 +1,13 @@
 -- What the functions of a turn give each other. Assumes nothing.
 use Prim.Native.Nat.{ℕ, _+_, _-_, _≤_, _<_, min}
 use mathlib.Core.Path.{_≡_, refl, sym, ap, subst, _∙_}
-use mathlib.Core.Bool.{Bool, true, false}
+use mathlib.Core.Bool.{Bool, true, false, cond as pick}
 use mathlib.Core.List.{List}
 use native.Mathlib.Omega.{arith}
 use borrow.Author.Tests.{eq-eqb, ne-eqb, eqb-false, leb-true, leb-false}
 use lib.Dec.{eqb, leb}
 use lib.ListN.{length, take, drop, length-take, length-drop}
 use lib.Seq.{sets, sets-eq, take-append-seam, take-all, take-take, take-add, drop-at, length-take-le}
-use Rattle.rules.specs.Tools.{pick}
 use Rattle.text.specs.Lines.{passedBy}
 use Rattle.trace.specs.declared.kept.Kept.{Kept}
 use Rattle.trace.specs.declared.kept.Advanced.{Advanced}

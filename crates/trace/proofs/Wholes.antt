@@ -1,7 +1,7 @@
 -- Whole lines of an input, and what follows them. Assumes nothing.
 use Prim.Native.Nat.{ℕ, zero, suc, _≤_}
 use mathlib.Core.Path.{_≡_, refl, sym, ap, _∙_}
-use mathlib.Core.Bool.{Bool, true, false, not, cond, _&&_}
+use mathlib.Core.Bool.{Bool, true, false, not, cond as pick, _&&_}
 use mathlib.Core.List.{List, [], _∷_, _++_}
 use native.Mathlib.Omega.{arith}
 use borrow.Author.Tests.{eqb-true, eqb-false, ne-eqb, eq-eqb}
@@ -73,7 +73,7 @@ whole-drop (suc n) (b ∷ s) h = whole-drop n s (rest-whole b s h (cases b s))
 -- ---- lines after whole lines
 
 onto-append : (t : Bool) (x : ℕ) (l : List (List ℕ)) (p : List ℕ) (ps q : List (List ℕ)) → l ≡ p ∷ ps
-    → cond t ([] ∷ (l ++ q)) (onto x (l ++ q)) ≡ cond t ([] ∷ l) (onto x l) ++ q
+    → pick t ([] ∷ (l ++ q)) (onto x (l ++ q)) ≡ pick t ([] ∷ l) (onto x l) ++ q
 onto-append true x l p ps q e = refl
 onto-append false x l p ps q e = rw e
 
@@ -93,7 +93,7 @@ lines-whole (x ∷ y ∷ a) b h = more (cases x (y ∷ a)) (λ e. lines-whole (y
     more (here e f w) i = absurd (omega arith)
     more (none e f w) i = absurd (omega arith)
     more (later e w) i =
-        ap (λ (l : List (List ℕ)). cond (eqb x 10) ([] ∷ l) (onto x l)) (i (omega arith))
+        ap (λ (l : List (List ℕ)). pick (eqb x 10) ([] ∷ l) (onto x l)) (i (omega arith))
         ∙ onto-append (eqb x 10) x (linesOf (y ∷ a)) _ _ (linesOf b) (lines-cons a y)
 
 -- bytes with no line feed

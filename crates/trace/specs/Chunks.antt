@@ -1,9 +1,9 @@
 -- A part of the input, a number of whole lines. Assumes nothing.
+use mathlib.Core.Bool.{cond as pick}
 use Prim.Native.Nat.{ℕ, _/_, min}
 use mathlib.Core.List.{List, [], map}
 use lib.ListN.{length, take}
 use lib.Seq.{sets}
-use Rattle.rules.specs.Tools.{pick}
 use Rattle.rules.specs.Runs.{answersOf, eventsOf, wordsOf}
 use Rattle.text.specs.Lines.{linesOf, passedBy}
 use Rattle.text.specs.Chunks.{markOf, wordsIn}

@@ -1,12 +1,11 @@
 -- What the private functions state. Assumes nothing.
 use Prim.Native.Nat.{ℕ}
-use mathlib.Core.Bool.{true}
+use mathlib.Core.Bool.{true, cond as pick}
 use mathlib.Core.List.{List}
 use lib.Dec.{eqb}
 use lib.ListN.{getD}
 use Rattle.rules.specs.declared.states.State.{State}
 use Rattle.rules.specs.declared.events.Stepped.{Stepped}
-use Rattle.rules.specs.Tools.{pick}
 use Rattle.rules.specs.Fresh.{zeroState, startOf}
 use Rattle.trace.specs.declared.kept.Kept.{Kept}
 use Rattle.trace.specs.Program.{unreadable}

@@ -1,13 +1,12 @@
 -- The program, from the bytes of its input to the bytes of its output (document 01, "Batch and program"). Assumes nothing.
 use Prim.Native.Nat.{ℕ}
-use mathlib.Core.Bool.{true, false}
+use mathlib.Core.Bool.{true, false, cond as pick}
 use mathlib.Core.List.{List, [], _∷_, _++_}
 use mathlib.Core.Option.{Option, none, some}
 use lib.ListN.{getD}
 use Rattle.rules.specs.declared.states.State.{State}
 use Rattle.rules.specs.declared.events.Answer.{Answer}
 use Rattle.rules.specs.declared.events.Stepped.{Stepped}
-use Rattle.rules.specs.Tools.{pick}
 use Rattle.rules.specs.Fresh.{zeroState, startOf}
 use Rattle.rules.specs.Effects.{stepOf}
 use Rattle.rules.specs.Runs.{eventOf}

@@ -1,11 +1,11 @@
 // The lines after the first.
-use crate::holding::least;
 use crate::kept::Advanced;
 use crate::kept::Kept;
 use rules::states::State;
 ghost use mathlib.Core.Path.{_≡_};
 ghost use Rattle.trace.specs.Chunks.{lent, advanced, lentAfter};
 ghost use Rattle.trace.specs.Parts.{running};
+use text::least;
 
 // As many lines as there is room for, by way of the lists lent. One batch runs all their events: a line that is not readable
 // changes nothing.

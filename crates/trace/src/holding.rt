@@ -4,6 +4,7 @@ ghost use mathlib.Core.Path.{_≡_};
 ghost use lib.ListN.{length, take, drop};
 ghost use lib.Seq.{sets};
 ghost use Rattle.trace.specs.Arrivals.{wholeOf, readyIn, clipped};
+use text::least;
 
 // How many bytes the whole lines of `s` are.
 pub fn whole(s: &[u8]) -> usize
@@ -17,12 +18,6 @@ pub fn whole(s: &[u8]) -> usize
         i -= 1;
     }
     i
-}
-
-pub(crate) fn least(a: usize, b: usize) -> usize
-    ensures { λ r. ⌜ r ≡ min a b ⌝ }
-{
-    if a < b { a } else { b }
 }
 
 // How many bytes of `s` can be answered.

@@ -1,7 +1,6 @@
 // One turn of the program.
 use crate::advancing::advance;
 use crate::holding::hold;
-use crate::holding::least;
 use crate::holding::ready;
 use crate::kept::Kept;
 use crate::kept::Turned;
@@ -10,6 +9,7 @@ ghost use lib.ListN.{take};
 ghost use lib.Seq.{sets};
 ghost use Rattle.trace.specs.Chunks.{lent, lentAfter, mostLines};
 ghost use Rattle.trace.specs.Arrivals.{readyIn, heldAfter, turned};
+use text::least;
 
 // Answers lines of the first bytes of `buf`, whole ones or, at the end of input, all, as many as the lists lent have room
 // for, into `out`; then moves what is still to be answered to the front of `buf`.

@@ -1,4 +1,4 @@
--- The types of src/, under short names. Assumes nothing.
+-- The types of `rules`, under short names. Assumes nothing.
 pub use Rattle.rules.specs.declared.numbers.Serial.{Serial}
 pub use Rattle.rules.specs.declared.cells.Want.{Want}
 pub use Rattle.rules.specs.declared.cells.Want.the-variants.{Nothing, Read, Write}

@@ -1,7 +1,7 @@
 -- The text of an answer, and of a run of them. Assumes nothing.
 use Prim.Native.Nat.{ℕ, zero, suc, _+_, _/_, _%_, _^_, _≤_, _<_}
 use mathlib.Core.Path.{_≡_, refl, sym, ap, _∙_}
-use mathlib.Core.Bool.{Bool, true, false, cond}
+use mathlib.Core.Bool.{Bool, true, false, cond as pick}
 use mathlib.Core.List.{List, [], _∷_, _++_}
 use native.Mathlib.Omega.{arith}
 use native.Mathlib.Nat.{add-zero, zero-add}
@@ -17,7 +17,7 @@ use Rattle.writing.proofs.Digits.{spans, decimal-is, length-digits}
 
 -- ---- one answer
 
-one-more : (t : Bool) (b c : ℕ) (x : List ℕ) (k : ℕ) → length x ≤ k → length (cond t (b ∷ []) (x ++ (c ∷ []))) ≤ suc k
+one-more : (t : Bool) (b c : ℕ) (x : List ℕ) (k : ℕ) → length x ≤ k → length (pick t (b ∷ []) (x ++ (c ∷ []))) ≤ suc k
 one-more true b c x k h = omega arith
 one-more false b c x k h = simp length-append (omega arith)
 
@@ -123,9 +123,9 @@ pub printing-start : (d ms ws : List ℕ) → Printing d ms ws 0 0 0 d
 printing-start d ms ws = record { total = zero-add _; bytes = refl }
 
 text-either : (t : Bool) (ms ws : List ℕ) (a : ℕ)
-    → cond t (answerText (getD (drop a ws) 0 0) (getD (drop a ws) 1 0) (getD (drop a ws) 2 0) ++ answersText ms (drop 3 (drop a ws)))
+    → pick t (answerText (getD (drop a ws) 0 0) (getD (drop a ws) 1 0) (getD (drop a ws) 2 0) ++ answersText ms (drop 3 (drop a ws)))
     (answerText 22 0 64 ++ answersText ms (drop a ws))
-    ≡ cond t (answerText (getD ws a 0) (getD ws (a + 1) 0) (getD ws (a + 2) 0)) (answerText 22 0 64) ++ answersText ms (drop (a + cond t 3 0) ws)
+    ≡ pick t (answerText (getD ws a 0) (getD ws (a + 1) 0) (getD ws (a + 2) 0)) (answerText 22 0 64) ++ answersText ms (drop (a + pick t 3 0) ws)
 text-either true ms ws a = rw (getD-drop a ws 0 0, getD-drop a ws 1 0, getD-drop a ws 2 0, add-zero a, drop-drop 3 a ws)
 text-either false ms ws a = rw (add-zero a)
 

@@ -1,6 +1,6 @@
 -- The rows of the table as the code works them out. Assumes nothing.
 use Prim.Native.Nat.{ℕ, _≤_, _<_}
-use mathlib.Core.Bool.{Bool, true, false, not, _&&_, _||_, or-false}
+use mathlib.Core.Bool.{Bool, true, false, not, _&&_, _||_, or-false, cond as pick}
 use lib.Dec.{eqb, leb, ltb}
 use mathlib.Core.Path.{_≡_, refl}
 use mathlib.Core.List.{List}
@@ -8,62 +8,61 @@ use native.Mathlib.Omega.{arith}
 use borrow.Author.Tests.{ne-eqb, le-ltb, lt-ltb}
 use lib.ListN.{getD}
 use Rattle.parts.specs.Types.{Cell, Sizes, Event}
-use Rattle.rules.specs.Tools.{pick}
 use Rattle.rules.specs.Cells.{isNothing, ableToRead, ableToWrite}
 use Rattle.rules.specs.Refusals.{given, table, slotted, sending, forCaches}
 use Rattle.parts.specs.Rows.{before, from, slotRefusal, ownRefusal, cellRefusal}
 use Rattle.rules.proofs.Laws.Bools.{or-left, or-right}
 
--- a test turned round, also where it is joined to one that fails; one that is joined to tests that fail
-turned : (b : Bool) (n : ℕ) → pick b 0 n ≡ pick (not b || false) n 0
-turned true n = refl
-turned false n = refl
+-- a test turn-or turn-round, also where it is or-nothing to one that fails; one that is or-nothing to tests that fail
+turn-or : (b : Bool) (n : ℕ) → pick b 0 n ≡ pick (not b || false) n 0
+turn-or true n = refl
+turn-or false n = refl
 
-round : (b : Bool) (n : ℕ) → pick b 0 n ≡ pick (not b) n 0
-round true n = refl
-round false n = refl
+turn-round : (b : Bool) (n : ℕ) → pick b 0 n ≡ pick (not b) n 0
+turn-round true n = refl
+turn-round false n = refl
 
-wanting : (i : Bool) (n m : ℕ) → pick i n m ≡ pick (not i) m n
-wanting true n m = refl
-wanting false n m = refl
+turn-both : (i : Bool) (n m : ℕ) → pick i n m ≡ pick (not i) m n
+turn-both true n m = refl
+turn-both false n m = refl
 
-joined : (b : Bool) (n : ℕ) → pick b n 0 ≡ pick (b || false || false) n 0
-joined true n = refl
-joined false n = refl
+or-nothing : (b : Bool) (n : ℕ) → pick b n 0 ≡ pick (b || false || false) n 0
+or-nothing true n = refl
+or-nothing false n = refl
 
-wanted : (i a : Bool) (n m : ℕ) → pick i (pick a n 0) m ≡ pick (not i) m (pick (a || false) n 0)
-wanted true true n m = refl
-wanted true false n m = refl
-wanted false a n m = refl
+turn-want : (i a : Bool) (n m : ℕ) → pick i (pick a n 0) m ≡ pick (not i) m (pick (a || false) n 0)
+turn-want true true n m = refl
+turn-want true false n m = refl
+turn-want false a n m = refl
 
 module _ (e : Event) (k n : ℕ) (x : Cell) where
   pub own-read : {t : Bool} {r : ℕ} → k ≡ 0 → t ≡ ableToRead x → r ≡ pick t 0 13 → r ≡ ownRefusal e k n x
   unfolding ownRefusal from before table given
-  own-read h f g = rw (g, f, h) (turned (ableToRead x) 13)
+  own-read h f g = rw (g, f, h) (turn-or (ableToRead x) 13)
 
   pub own-write : {t : Bool} {r : ℕ} → k ≡ 1 → t ≡ ableToWrite n x → r ≡ pick t 0 13 → r ≡ ownRefusal e k n x
   unfolding ownRefusal from before table given
-  own-write h f g = rw (g, f, h) (round (ableToWrite n x) 13)
+  own-write h f g = rw (g, f, h) (turn-round (ableToWrite n x) 13)
 
   pub own-want-read : {t u : Bool} {r v : ℕ} → k ≡ 5 → u ≡ isNothing (x .want) → t ≡ ableToRead x → v ≡ pick t 15 0 → r ≡ pick u v 14 → r ≡ ownRefusal e k n x
   unfolding ownRefusal from before table given
-  own-want-read h i f g j = rw (j, g, f, i, h) (wanted (isNothing (x .want)) (ableToRead x) 15 14)
+  own-want-read h i f g j = rw (j, g, f, i, h) (turn-want (isNothing (x .want)) (ableToRead x) 15 14)
 
   pub own-want-write : {t u : Bool} {r v : ℕ} → k ≡ 6 → u ≡ isNothing (x .want) → t ≡ ableToWrite n x → v ≡ pick t 15 0 → r ≡ pick u v 14 → r ≡ ownRefusal e k n x
   unfolding ownRefusal from before table given
-  own-want-write h i f g j = rw (j, g, f, i, h) (wanting (isNothing (x .want)) (pick (ableToWrite n x) 15 0) 14)
+  own-want-write h i f g j = rw (j, g, f, i, h) (turn-both (isNothing (x .want)) (pick (ableToWrite n x) 15 0) 14)
 
   pub own-lost-token : {u : Bool} {r : ℕ} → k ≡ 7 → u ≡ isNothing (x .want) → r ≡ pick u 16 0 → r ≡ ownRefusal e k n x
   unfolding ownRefusal from before table given
-  own-lost-token h i g = rw (g, i, h) (joined (isNothing (x .want)) 16)
+  own-lost-token h i g = rw (g, i, h) (or-nothing (isNothing (x .want)) 16)
 
   pub own-lost-data : {r : ℕ} → k ≡ 8 → r ≡ pick (x .backup) 0 16 → r ≡ ownRefusal e k n x
   unfolding ownRefusal from before table given
-  own-lost-data h g = rw (g, h) (turned (x .backup) 16)
+  own-lost-data h g = rw (g, h) (turn-or (x .backup) 16)
 
   pub own-lost-ack : {r : ℕ} → k ≡ 9 → r ≡ pick (x .blocked) 0 16 → r ≡ ownRefusal e k n x
   unfolding ownRefusal from before table given
-  own-lost-ack h g = rw (g, h) (round (x .blocked) 16)
+  own-lost-ack h g = rw (g, h) (turn-round (x .blocked) 16)
 
 pub own-none : (e : Event) (k n : ℕ) (x : Cell) → (k ≡ 0 → ⊥) → (k ≡ 1 → ⊥) → (k ≡ 5 → ⊥) → (k ≡ 6 → ⊥) → (k ≡ 7 → ⊥) → (k ≡ 8 → ⊥) → (k ≡ 9 → ⊥) → 0 ≡ ownRefusal e k n x
 unfolding ownRefusal from before table given

@@ -1,16 +1,15 @@
 -- A delivery and a drop keep a state well formed. Assumes nothing.
 use Prim.Native.Nat.{ℕ, _+_, _≤_, _<_}
 use mathlib.Core.Path.{_≡_, refl, ap, subst}
-use mathlib.Core.Bool.{true, false}
+use mathlib.Core.Bool.{true, false, cond as pick}
 use native.Mathlib.Omega.{arith}
 use lib.Dec.{eqb}
 use Rattle.rules.specs.Types.{Cell, MessageKind, Free, Tokens, OwnershipAck, DeletionAck, Message, State, Event, Arrival, Stepped}
-use Rattle.rules.specs.Tools.{pick}
 use Rattle.rules.specs.States.{slotAt, serialAt, freeMessage, bears, withSlot}
 use Rattle.rules.specs.WellFormed.{messageFine, counted, inCells, inMessages, held, borne, tokensOf}
 use Rattle.rules.specs.Cells.{received, settled, unbacked, unblocked}
 use Rattle.rules.specs.Refusals.{freeAt}
-use Rattle.rules.specs.Effects.{answer, ack, target, landed, emptied, arrival, discarded, arrive, delivered, replyOf, leaves, deliverOf}
+use Rattle.rules.specs.Effects.{answer, ack, target, landed, emptied, arrival, discarded, arrive, replyOf, leaves, deliverOf}
 use Rattle.rules.proofs.Laws.Bools.{by-pick}
 use Rattle.rules.proofs.Laws.Cells.{received-is}
 use Rattle.rules.proofs.Laws.Views.{Sized, same-cell}
@@ -91,12 +90,10 @@ module _ (s : State) (i : ℕ) where
       (λ _. discards)
 
 pub delivers : (s : State) (e : Event) → Landed s (e .amount) (deliverOf s e)
-unfolding deliverOf delivered
+unfolding deliverOf
 delivers s e =
     let i = e .amount in
-    by-pick (λ a. Landed s i (leaves s i (current s i) (slotAt s i) a)) (eqb (slotAt s i .serial .0) (current s i))
-    (λ g. arrivals s i g (slotAt s i .kind) refl)
-    (λ _. discards s i)
+    by-pick (Landed s i) (eqb (slotAt s i .serial .0) (current s i)) (λ g. arrivals s i g (slotAt s i .kind) refl) (λ _. empties s i)
 
 module _ {s : State} (z : Sized s) (w : Well s) (i : ℕ) (hi : i < 64) (f : freeAt s i ≡ false) where
   pub landed-change : (c : Cell) (r : Message)

@@ -2,17 +2,16 @@
 use Prim.Native.Nat.{ℕ, _+_, _≤_}
 use mathlib.Core.Path.{_≡_, refl, sym, subst}
 use mathlib.Core.Logic.{_≢_}
-use mathlib.Core.Bool.{Bool, true, false, _||_}
+use mathlib.Core.Bool.{Bool, true, false, _||_, cond as pick}
 use native.Mathlib.Nat.{le-refl}
 use native.Mathlib.Omega.{arith}
 use borrow.Author.Tests.{eqb-true, leb-true, le-leb, ltb-true, ltb-false}
 use lib.Dec.{eqb, ltb}
 use Rattle.rules.specs.Types.{Want, Cell, Message}
-use Rattle.rules.specs.Tools.{pick}
 use Rattle.rules.specs.Cells.{ableToRead, ableToWrite, backUp, cleared, give, isNothing, received, recreated, served, settled, unbacked, unblocked, wantAfter, withWant, written}
 use Rattle.rules.specs.WellFormed.{cellZero, cellRules}
 use Rattle.rules.proofs.Laws.Bools.{bit, clash, never, split, by-pick, and-both, and-right, every-all, all-every, bit-not, bit-small, not-bit-le, imp-bit, bit-imp, imp-some, some-imp, imp-none, none-imp, imp-then, then-imp}
-use Rattle.rules.proofs.Laws.Cells.{joined, received-is}
+use Rattle.rules.proofs.Laws.Cells.{combined, received-is}
 
 -- what a cell's marks need
 pub record Marks (c : Cell) : Type 0 where
@@ -117,5 +116,5 @@ module _ {n : ℕ} {memory : Bool} {c : Cell} (k : CellOk n memory c) where
   received-ok m h t f =
       let v = bit-small (m .full || c .valid) in
       let u = no-data (m .full) (c .valid) (m .word) (c .word) (k .no-word) in
-      let j : CellOk n memory (joined (m .tokens .0) (m .owner) (m .full) (m .word) c) = search (arith, or-bits, le-refl, u) in
+      let j : CellOk n memory (combined (m .tokens .0) (m .owner) (m .full) (m .word) c) = search (arith, or-bits, le-refl, u) in
       subst (CellOk n memory) (sym (received-is m c)) j

@@ -1,11 +1,10 @@
 -- A send keeps a state well formed. Assumes nothing.
 use Prim.Native.Nat.{_-_, _≤_}
 use mathlib.Core.Path.{_≡_, refl}
-use mathlib.Core.Bool.{true, false}
+use mathlib.Core.Bool.{true, false, cond as pick}
 use native.Mathlib.Omega.{arith}
 use lib.Dec.{eqb}
 use Rattle.rules.specs.Types.{Cell, Message, State, Event}
-use Rattle.rules.specs.Tools.{pick}
 use Rattle.rules.specs.States.{slotAt, serialAt}
 use Rattle.rules.specs.WellFormed.{borne}
 use Rattle.rules.specs.Cells.{backUp, give}

@@ -1,12 +1,12 @@
 -- Laws of tests. Assumes nothing.
 use Prim.Native.Nat.{ℕ, _≤_}
-use mathlib.Core.Bool.{Bool, true, false, not, _&&_, _||_}
-use mathlib.Core.Path.{_≡_, refl}
+use mathlib.Core.Bool.{Bool, true, false, not, _&&_, _||_, and-true, and-assoc, cond as pick}
+use mathlib.Core.Path.{_≡_, refl, sym, _∙_}
 use mathlib.Core.List.{List, [], _∷_}
 use native.Mathlib.Omega.{arith}
 use lib.Dec.{eqb, ltb}
 use borrow.Author.Tests.{ltb-true, eqb-true, lt-ltb, eq-eqb}
-use Rattle.rules.specs.Tools.{pick, _⇒_, every}
+use Rattle.rules.specs.Tools.{_⇒_, every}
 
 -- a contradiction between tests
 pub clash : {A : Type 0} {b : Bool} → b ≡ true → b ≡ false → A
@@ -118,3 +118,20 @@ imp-then false b h e = clash e refl
 pub then-imp : (a b : Bool) → (a ≡ true → b ≡ true) → (a ⇒ b) ≡ true
 then-imp true b h = h refl
 then-imp false b h = refl
+
+-- the tests of a list, joined from the left
+abbrev pub everyAfter : Bool → List Bool → Bool
+everyAfter a [] = a
+everyAfter a (b ∷ bs) = everyAfter (a && b) bs
+
+after-is : (a : Bool) (bs : List Bool) → everyAfter a bs ≡ a && every bs
+unfolding every
+after-is a [] = sym (and-true a)
+after-is a (b ∷ bs) = after-is (a && b) bs ∙ and-assoc a b (every bs)
+
+pub every-is : (bs : List Bool) → everyAfter true bs ≡ every bs
+every-is bs = after-is true bs
+
+-- what a call's result, once tested, says of what the callee ensures
+pub told : {A : Type 0} {r x y : A} → r ≡ x → r ≡ y → x ≡ y
+told p q = sym p ∙ q

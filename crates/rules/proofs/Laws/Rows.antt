@@ -2,12 +2,11 @@
 use Prim.Native.Nat.{ℕ, _≤_, _<_}
 use mathlib.Core.Path.{_≡_, refl, sym}
 use mathlib.Core.Logic.{_≢_}
-use mathlib.Core.Bool.{Bool, true, false, _&&_}
+use mathlib.Core.Bool.{Bool, true, false, _&&_, cond as pick}
 use mathlib.Core.List.{List, [], _∷_}
 use native.Mathlib.Omega.{arith}
 use borrow.Author.Tests.{ltb-true, eqb-true, eq-eqb}
 use lib.Dec.{eqb, ltb}
-use Rattle.rules.specs.Tools.{pick}
 use Rattle.rules.specs.Refusals.{Row, Seen, table, given}
 use Rattle.rules.specs.Types.{Event}
 use Rattle.rules.proofs.Laws.Bools.{clash, split, and-left, and-right, by-pick}
@@ -75,5 +74,6 @@ applies-from a (r ∷ rs) h n d g =
 pub given-smallest : (v : Seen) (e : Event) (k n : ℕ) → applies n (table v e k) ≡ true → (0 < given (table v e k)) × (given (table v e k) ≤ n)
 given-smallest v e k n p = given-least 0 (table v e k) (table-ascends v e k) n p
 
+-- and it is that of a row which applies
 pub given-applies : (v : Seen) (e : Event) (k n : ℕ) → n ≢ 0 → given (table v e k) ≡ n → applies n (table v e k) ≡ true
 given-applies v e k n d g = applies-from 0 (table v e k) (table-ascends v e k) n d g

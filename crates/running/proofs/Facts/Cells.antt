@@ -1,13 +1,12 @@
 -- The turns of a read, a write and a want, and the cause of a timeout. Assumes nothing.
 use Prim.Native.Nat.{ℕ, _+_, _*_, _≤_, _<_}
-use mathlib.Core.Bool.{true, false, _||_}
+use mathlib.Core.Bool.{true, false, _||_, cond as pick}
 use mathlib.Core.Path.{_≡_, refl, sym, ap, _∙_}
 use mathlib.Core.Logic.{_≢_}
 use mathlib.Core.List.{List}
 use native.Mathlib.Omega.{arith}
 use lib.ListN.{length, getD, set}
 use Rattle.running.specs.Types.{Cell, Sizes, State, Event, Answer}
-use Rattle.rules.specs.Tools.{pick}
 use Rattle.rules.specs.Cells.{zeroCell}
 use Rattle.rules.specs.States.{cellAt, withCell}
 use Rattle.rules.specs.WellFormed.{wellFormed}

@@ -1,6 +1,6 @@
 -- The number of an event over a well formed state, from the parts that it names. Assumes nothing.
 use Prim.Native.Nat.{ℕ, _≤_, _<_}
-use mathlib.Core.Bool.{true, false, _||_}
+use mathlib.Core.Bool.{true, false, _||_, cond as pick}
 use mathlib.Core.Path.{_≡_, refl, ap, _∙_}
 use mathlib.Core.Logic.{_≢_}
 use mathlib.Core.List.{List, [], _∷_}
@@ -8,7 +8,6 @@ use native.Mathlib.Omega.{arith}
 use lib.Dec.{eqb, leb, ltb}
 use borrow.Author.Tests.{ltb-true, ltb-false, leb-false, eqb-true, eqb-false, eq-eqb, ne-eqb}
 use Rattle.running.specs.Types.{Cell, Sizes, State, Event}
-use Rattle.rules.specs.Tools.{pick}
 use Rattle.rules.specs.WellFormed.{wellFormed}
 use Rattle.rules.specs.Refusals.{Row, seen, given, table, tableOf, refusal, timeout, slotted, sending, delivering, cellOf, freeAt, lowestFree}
 use Rattle.parts.specs.Rows.{before, from, slotSight, sendRefusal, cellRefusal}

@@ -1,6 +1,6 @@
 -- What a search finds depends on what it looks at alone. Assumes nothing.
 use Prim.Native.Nat.{ℕ, zero, suc, _+_, _*_, _<_}
-use mathlib.Core.Bool.{Bool, true, false, not, _&&_, or-true}
+use mathlib.Core.Bool.{Bool, true, false, not, _&&_, or-true, cond as pick}
 use mathlib.Core.Path.{_≡_, refl, sym, ap, ap₂, _∙_}
 use mathlib.Core.List.{List}
 use native.Mathlib.Omega.{arith}
@@ -9,7 +9,7 @@ use lib.ListN.{getD, set}
 use native.Mathlib.Decide.{ℕ-discrete}
 use borrow.Author.Tests.{ltb-true, ltb-false, eq-eqb, ne-eqb}
 use Rattle.running.specs.Types.{Cell, MessageKind, Free, Tokens, OwnershipAck, DeletionAck, State, Event}
-use Rattle.rules.specs.Tools.{pick, firstTo, fillTo}
+use Rattle.rules.specs.Tools.{firstTo, fillTo}
 use Rattle.rules.specs.States.{slotAt, isFree, bears}
 use Rattle.rules.specs.WellFormed.{wellFormed}
 use Rattle.rules.specs.Refusals.{freeAt, lowest, copyless, lowestFree, unborne}

@@ -1,6 +1,6 @@
 -- The turns of a delivery and a drop. Assumes nothing.
 use Prim.Native.Nat.{ℕ, _<_}
-use mathlib.Core.Bool.{true, false}
+use mathlib.Core.Bool.{Bool, true, false, cond as pick}
 use mathlib.Core.Path.{_≡_, refl, sym, ap, _∙_}
 use mathlib.Core.Logic.{_≢_}
 use mathlib.Core.List.{List}
@@ -13,7 +13,7 @@ use Rattle.rules.specs.Cells.{zeroCell}
 use Rattle.rules.specs.States.{freeMessage, cellAt, slotAt, serialAt, withCell, withSlot}
 use Rattle.rules.specs.WellFormed.{wellFormed}
 use Rattle.rules.specs.Refusals.{refusal, delivering, slotted, freeAt}
-use Rattle.rules.specs.Effects.{answer, target, emptied, discarded, delivered, replyOf, leaves, deliverOf, effect, stepOf}
+use Rattle.rules.specs.Effects.{answer, target, emptied, discarded, arrive, replyOf, leaves, deliverOf, effect, stepOf}
 use Rattle.parts.specs.Changes.{fits, lost, arriveOf}
 use Rattle.parts.specs.Places.{rowOf, placeOf}
 use Rattle.parts.specs.Rows.{slotRefusal}
@@ -35,10 +35,15 @@ reply-tag Tokens q m = refl
 reply-tag OwnershipAck q m = refl
 reply-tag DeletionAck q m = refl
 
--- a message that fits arrives as the rule says, and one that is dropped is discarded
-arrive-is : (n q i : ℕ) (e : Event) (x : Cell) (m : Message) → fits x m ≡ true → e .amount ≡ i → arriveOf n q e 3 x m ≡ delivered n q i x m
-unfolding arriveOf lost delivered
-arrive-is n q i e x m f h = split (eqb (m .serial .0) q) (λ t. rw (f, t, h)) (λ g. rw (f, g))
+-- a message that fits arrives as the rule says; one of another serial, and one that is dropped, is discarded
+arrive-is : (n q : ℕ) (e : Event) (x : Cell) (m : Message) → fits x m ≡ true → arriveOf n q e 3 x m ≡ pick (eqb (m .serial .0) q) (arrive n (e .amount) x m (m .kind)) (discarded x)
+unfolding arriveOf lost
+arrive-is n q e x m f = split (eqb (m .serial .0) q) (λ t. rw (f, t)) (λ g. rw (f, g))
+
+-- what is left of a test between two changes
+left-along : (f : Arrival → Stepped) (b : Bool) {x y : Arrival} {u v : Stepped} → u ≡ f x → v ≡ f y → pick b u v ≡ f (pick b x y)
+left-along f true p q = p
+left-along f false p q = q
 
 drop-is : (n q : ℕ) (e : Event) (x : Cell) (m : Message) → arriveOf n q e 4 x m ≡ discarded x
 unfolding arriveOf lost
@@ -83,7 +88,9 @@ module _ (t : State) (sized : Sized t) (w : wellFormed t ≡ true) (e : Event) (
         ∙ split (delivering (e .kind))
         (λ y.
         let k = eqb-true (e .kind) 3 y in
-        rw k (ap to (sym (arrive-is (t .sizes .total .0) current (e .amount) e (target t it) it fit refl))))
+        rw k
+        (left-along to (eqb (it .serial .0) current) refl (emptied-is t (e .amount) current it)
+        ∙ ap to (sym (arrive-is (t .sizes .total .0) current e (target t it) it fit))))
         (λ n.
         let k = eqb-true (e .kind) 4 (rw n at slot) in
         rw k (emptied-is t (e .amount) current it ∙ ap to (sym (drop-is (t .sizes .total .0) current e (target t it) it))))

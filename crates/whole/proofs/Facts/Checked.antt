@@ -11,7 +11,7 @@ use Rattle.rules.specs.WellFormed.{sizesFine, inMessages, tokensOf, wellFormed}
 use Rattle.rules.specs.WellFormed.{serialFineAt}
 use Rattle.rules.specs.WellFormed.{borne}
 use Rattle.rules.specs.Tallies.{CellsChecked, PoolChecked}
-use Rattle.rules.proofs.Facts.Bools.{every-is}
+use Rattle.rules.proofs.Laws.Bools.{every-is}
 use Rattle.rules.proofs.Facts.Loops.{all-same}
 
 pub all-checked : (s : State) {a b c d e : Bool} {t u : List ℕ} → a ≡ sizesFine (s .sizes)

@@ -1,6 +1,6 @@
 -- Laws of a start. Assumes nothing.
 use Prim.Native.Nat.{ℕ, _+_, _*_, _≤_}
-use mathlib.Core.Bool.{Bool}
+use mathlib.Core.Bool.{Bool, cond as pick}
 use mathlib.Core.Path.{_≡_, refl, sym, ap, _∙_}
 use mathlib.Core.List.{List}
 use native.Mathlib.Numerals.{add-one}
@@ -9,7 +9,6 @@ use Rattle.whole.specs.Types.{Cell, State, Stepped}
 use Rattle.rules.specs.Cells.{zeroCell}
 use Rattle.rules.specs.Fresh.{memoryCell, freshCells, sizes, fresh, zeroState, startOf}
 use Rattle.rules.specs.WellFormed.{sizesFine}
-use Rattle.rules.specs.Tools.{pick}
 use Rattle.rules.proofs.Laws.Bools.{split}
 use Rattle.rules.proofs.Keeps.Well.{sizes-ok}
 use native.Mathlib.Omega.{arith}

@@ -1,4 +1,4 @@
-use Rattle.rules.proofs.Facts.Bools.{told}
+use Rattle.rules.proofs.Laws.Bools.{told}
 use Rattle.parts.specs.Changes.{arriveOf}
 use Rattle.parts.proofs.Facts.Changes.{unlost}
 use borrow.Author.Needs.{needs}

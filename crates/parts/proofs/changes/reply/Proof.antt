@@ -1,4 +1,4 @@
-use Rattle.rules.proofs.Facts.Bools.{told}
+use Rattle.rules.proofs.Laws.Bools.{told}
 use Rattle.rules.specs.Effects.{replyOf}
 use borrow.Author.Needs.{needs}
 use Rattle.parts.proofs.changes.reply.Statement.{statement}

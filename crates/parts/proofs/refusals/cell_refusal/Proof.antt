@@ -1,4 +1,4 @@
-use Rattle.rules.proofs.Facts.Bools.{told}
+use Rattle.rules.proofs.Laws.Bools.{told}
 use Rattle.parts.proofs.Facts.Rows.{cell-none, cell-rows}
 use borrow.Author.Needs.{needs}
 use Rattle.parts.proofs.refusals.cell_refusal.Statement.{statement}

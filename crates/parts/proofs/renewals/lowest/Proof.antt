@@ -1,6 +1,6 @@
 use Rattle.rules.proofs.Facts.Loops.{below-suc}
 use Rattle.rules.proofs.Laws.Sums.{first-is, first-all}
-use Rattle.rules.proofs.Facts.Bools.{told}
+use Rattle.rules.proofs.Laws.Bools.{told}
 use Rattle.rules.specs.Refusals.{lowest}
 use Rattle.parts.specs.Nines.{nth, marked}
 use native.Mathlib.Omega.{arith}

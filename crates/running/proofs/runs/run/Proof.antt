@@ -1,4 +1,4 @@
-use Rattle.rules.proofs.Facts.Bools.{told}
+use Rattle.rules.proofs.Laws.Bools.{told}
 use Rattle.running.proofs.Facts.Ill.{ill-ran}
 use borrow.Author.Needs.{needs}
 use Rattle.running.proofs.runs.run.Statement.{statement}

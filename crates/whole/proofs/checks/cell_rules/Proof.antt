@@ -1,4 +1,4 @@
-use Rattle.rules.proofs.Facts.Bools.{every-is}
+use Rattle.rules.proofs.Laws.Bools.{every-is}
 use Rattle.rules.specs.WellFormed.{cellRules}
 use borrow.Author.Needs.{needs}
 use Rattle.whole.proofs.checks.cell_rules.Statement.{statement}

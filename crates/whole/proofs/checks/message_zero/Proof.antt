@@ -1,4 +1,4 @@
-use Rattle.rules.proofs.Facts.Bools.{every-is}
+use Rattle.rules.proofs.Laws.Bools.{every-is}
 use Rattle.rules.specs.WellFormed.{messageZero}
 use Rattle.whole.proofs.checks.message_zero.Statement.{statement}
 use Rattle.whole.proofs.checks.message_zero.Tie as tie

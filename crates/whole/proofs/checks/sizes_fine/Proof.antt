@@ -1,4 +1,4 @@
-use Rattle.rules.proofs.Facts.Bools.{every-is}
+use Rattle.rules.proofs.Laws.Bools.{every-is}
 use Rattle.rules.specs.WellFormed.{sizesFine}
 use Rattle.whole.proofs.checks.sizes_fine.Statement.{statement}
 use Rattle.whole.proofs.checks.sizes_fine.Tie as tie

@@ -1,4 +1,4 @@
-use Rattle.rules.proofs.Facts.Bools.{every-is}
+use Rattle.rules.proofs.Laws.Bools.{every-is}
 use Rattle.rules.specs.WellFormed.{tokensFine}
 use Rattle.whole.proofs.checks.tokens_fine.Statement.{statement}
 use Rattle.whole.proofs.checks.tokens_fine.Tie as tie

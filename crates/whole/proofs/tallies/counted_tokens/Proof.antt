@@ -1,4 +1,4 @@
-use Rattle.rules.proofs.Facts.Bools.{told}
+use Rattle.rules.proofs.Laws.Bools.{told}
 use Rattle.rules.proofs.Facts.Tables.{counted-no, counted-yes}
 use Rattle.rules.specs.States.{bears}
 use native.Mathlib.Omega.{arith}
