@@ -25,7 +25,10 @@ same-length : tie.Need-same-length
 same-length c = search needs
 
 returns-3 : tie.Need-returns-3
-returns-3 c = batch-ran _ _ _ (c .before .before .before .before .before .before .if1 .left) (c .before .before .before .before .before .if2 .left) (c .before .before .before .run .ensures .0) (c .before .before .before .run .ensures .1) (c .batched3 .ensures)
+returns-3 c =
+    let asked = c .before .before .before .before .before in
+    let ran = c .before .before .before .run .ensures in
+    batch-ran _ _ _ (asked .before .if1 .left) (asked .if2 .left) (ran .0) (ran .1) (c .batched3 .ensures)
 
 pub batch-spec : {M : Type 1} → statement M
 batch-spec =
