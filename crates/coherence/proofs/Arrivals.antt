@@ -1,18 +1,18 @@
 -- A delivery and a drop keep the invariant. Assumes nothing.
 use Prim.Native.Nat.{ℕ, _+_, _≤_, _<_}
-use mathlib.Core.Path.{_≡_, refl, ap, subst, sym}
-use mathlib.Core.Bool.{Bool, true, false, _||_, cond as pick}
+use mathlib.Core.Path.{_≡_, refl, ap, subst, sym, _∙_}
+use mathlib.Core.Bool.{Bool, true, false, _||_}
 use native.Mathlib.Omega.{arith}
 use borrow.Author.Tests.{eq-eqb}
 use lib.Dec.{eqb}
 use Rattle.coherence.specs.Types.{Cell, MessageKind, Tokens, OwnershipAck, DeletionAck, Message, State, Stepped}
 use Rattle.rules.specs.States.{slotAt, freeMessage, bears}
 use Rattle.rules.specs.WellFormed.{inCells, held, borne}
-use Rattle.rules.specs.Cells.{received, unbacked, unblocked}
+use Rattle.rules.specs.Cells.{received, unblocked}
 use Rattle.rules.specs.Refusals.{freeAt}
 use Rattle.rules.specs.Effects.{ack, target, landed}
 use Rattle.rules.proofs.Laws.Bools.{bit, bit-of, bit-not, bit-small, clash, split}
-use Rattle.rules.proofs.Laws.Cells.{received-is}
+use Rattle.rules.proofs.Laws.Cells.{by-marks}
 use Rattle.rules.proofs.Laws.Views.{Sized}
 use Rattle.rules.proofs.Laws.Bears.{bears-free, bears-its, cell-share}
 use Rattle.rules.proofs.Keeps.Messages.{tokened}
@@ -20,12 +20,6 @@ use Rattle.rules.proofs.Keeps.Well.{Well, slot-sort}
 use Rattle.rules.proofs.Keeps.Arrivals.{current, joining, Live, Arrives, gone, tokens, ownership, acknowledged, deleted, Landed, landed-change, live-bears, landed-like}
 use Rattle.coherence.proofs.Invariant.{owners, backups, blocks, passed, ackOf, ownershipAcks, deletionAcks, CountsOf, Has, Saves, Carries, Kept, Held}
 use Rattle.coherence.proofs.Changes.{Shares, live, dead, blocked-owners, held-change, kept-here, saved-here, Moved, moved}
-
--- the word of a cell that a message came to
-came-word : (full valid : Bool) (a b x : ℕ) → (full ≡ true → a ≡ x) → (valid ≡ true → b ≡ x) → full || valid ≡ true
-    → pick full a b ≡ x
-came-word true valid a b x p q h = p refl
-came-word false valid a b x p q h = q h
 
 -- marks that are joined
 or-not : (a b : Bool) → a ≡ false → bit (a || b) ≡ bit b
@@ -88,8 +82,8 @@ module _ {s : State} (z : Sized s) (w : Well s) (i : ℕ) (hi : i < 64) (f : fre
   joining-has : Live s i → Has x (joining s i)
   joining-has g =
       let m = slotAt s i in
-      subst (Has x) (sym (received-is m (target s m)))
-      (came-word (m .full) (target s m .valid) (m .word) (target s m .word) x (k .carried i hi (live-bears z w i hi f g)) target-has)
+      let sent = k .carried i hi (live-bears z w i hi f g) in
+      by-marks (Has x) m (target s m) (λ _ d _. sent d) (λ _ _. target-has) (λ _ d _. sent d) (λ _ _. target-has)
 
   -- the cell that tokens came to
   record Joined (c : Cell) : Type 0 where
@@ -101,8 +95,11 @@ module _ {s : State} (z : Sized s) (w : Well s) (i : ℕ) (hi : i < 64) (f : fre
 
   joins : Joined (received (slotAt s i) (target s (slotAt s i)))
   joins =
-      let m = slotAt s i in
-      subst Joined (sym (received-is m (target s m))) (record { count = refl; owner = refl; blocked = refl; backup = refl; saved = λ v. v })
+      by-marks Joined (slotAt s i) (target s (slotAt s i))
+      (λ o _. record { count = refl; owner = rw o; blocked = rw o; backup = refl; saved = λ v. v })
+      (λ o _. record { count = refl; owner = rw o; blocked = rw o; backup = refl; saved = λ v. v })
+      (λ o _. record { count = refl; owner = rw o; blocked = rw o; backup = refl; saved = λ v. v })
+      (λ o _. record { count = refl; owner = rw o; blocked = rw o; backup = refl; saved = λ v. v })
 
   -- the message is of one kind: what it adds to the acknowledgments
   of-kind : (q : MessageKind) → slotAt s i .kind ≡ q
@@ -146,9 +143,8 @@ module _ {s : State} (z : Sized s) (w : Well s) (i : ℕ) (hi : i < 64) (f : fre
       let a = bit-of (m .owner) p in
       let y = of-kind Tokens e in
       kept-here ch x k (omega arith) (joining-has g) (λ _ h. clash h refl) (λ none. absurd (omega arith))
-  arrives-kept (acknowledged g e p) =
+  arrives-kept (acknowledged g e p {c} h) =
       let m = slotAt s i in
-      let c = unbacked (target s m) in
       let r = ack DeletionAck (current s i) m in
       let ch = landed-change z w i hi f c r in
       let b = before c r in
@@ -158,7 +154,11 @@ module _ {s : State} (z : Sized s) (w : Well s) (i : ℕ) (hi : i < 64) (f : fre
       let a = bit-small (m .owner) in
       let u = tokened (slot-sort w i hi) in
       let y = of-kind OwnershipAck e in
-      kept-here ch x k (omega arith) target-has (λ _ h. clash h refl) (λ none. absurd (omega arith))
+      let own = ap bit (h .owner) in
+      let blk = ap bit (h .blocked) in
+      let bak = bit-not (c .backup) (h .backup) in
+      let count = h .count in
+      kept-here ch x k (omega arith) (λ d. h .word ∙ target-has (sym (h .valid) ∙ d)) (λ _ d. clash d refl) (λ none. absurd (omega arith))
   arrives-kept (deleted g e p) =
       let m = slotAt s i in
       let c = unblocked (target s m) in

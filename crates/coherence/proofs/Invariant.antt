@@ -1,6 +1,6 @@
 -- What every run keeps of a line whose last accepted write was of the word x. Assumes nothing.
 use Prim.Native.Nat.{ℕ, _+_, _≤_, _<_}
-use mathlib.Core.Path.{_≡_, refl, sym, ap, subst, _∙_}
+use mathlib.Core.Path.{_≡_, sym, ap, subst, _∙_}
 use mathlib.Core.Bool.{true}
 use native.Mathlib.Omega.{arith}
 use native.Mathlib.Decide.{ℕ-discrete}
@@ -8,7 +8,7 @@ use lib.Dec.{eqb}
 use Rattle.coherence.specs.Types.{Cell, MessageKind, Free, Tokens, OwnershipAck, DeletionAck, Message, State}
 use Rattle.rules.specs.States.{cellAt, slotAt, serialAt, bears}
 use Rattle.rules.specs.WellFormed.{inCells, inMessages, held, borne}
-use Rattle.rules.proofs.Laws.Bools.{bit, clash}
+use Rattle.rules.proofs.Laws.Bools.{bit, bit-not, clash}
 use Rattle.rules.proofs.Laws.Views.{total-of}
 use Rattle.rules.proofs.Laws.Sole.{Sole, sole-cells, sole-messages}
 
@@ -108,14 +108,14 @@ pub kept-sole : {s : State} {l n : ℕ} {c : Cell} (x : ℕ) → Sole s l n c �
     → backups c ≡ 0 → blocks c ≡ 0 → c .word ≡ x
     → Kept s l x
 kept-sole {s} {l} {n} {c} x h t o b u y =
-    let own = sole-cells h owners (λ _. refl) in
+    let own = sole-cells h owners (λ c b. bit-not (c .owner) (b .owner)) in
     record {
       tally =
           omega (
             arith,
-            sole-cells h held (λ _. refl),
-            sole-cells h backups (λ _. refl),
-            sole-cells h blocks (λ _. refl),
+            sole-cells h held (λ _ b. b .none),
+            sole-cells h backups (λ c b. bit-not (c .backup) (b .backup)),
+            sole-cells h blocks (λ c b. bit-not (c .blocked) (b .blocked)),
             sole-messages h borne,
             sole-messages h passed,
             sole-messages h ownershipAcks,
@@ -124,7 +124,7 @@ kept-sole {s} {l} {n} {c} x h t o b u y =
       words = λ j hj.
           elim (ℕ-discrete j n) [
             | yes q ↦ subst (Has x) (sym (ap (cellAt s l) q ∙ h .cell)) (λ _. y)
-            | no d ↦ (let r = h .other j hj d in subst (Has x) (sym (r .1)) (λ v. clash v refl))
+            | no d ↦ (λ v. clash v (h .other j hj d .valid))
           ];
       saved = λ none j hj. absurd (omega arith);
       carried = λ i hi v. clash v (h .unborne i hi);

@@ -11,7 +11,7 @@ use Rattle.rules.specs.States.{cellAt, serialAt}
 use Rattle.rules.specs.WellFormed.{inCells}
 use Rattle.rules.specs.Refusals.{lowest, copyless}
 use Rattle.rules.specs.Effects.{wordFor, recreateOf}
-use Rattle.rules.proofs.Laws.Bools.{bit, split, by-pick, and-left, and-right, bit-of, bit-not, of-bit}
+use Rattle.rules.proofs.Laws.Bools.{bit, split, and-left, and-right, bit-of, bit-not, of-bit}
 use Rattle.rules.proofs.Laws.Sums.{sum-zero, first-hit, first-none}
 use Rattle.rules.proofs.Laws.Views.{lines-of, total-of, Sized}
 use Rattle.rules.proofs.Laws.Renewals.{other-cells, other-messages}
@@ -52,16 +52,16 @@ last-word {s} w l hl x k =
     let o = lowest (cellAt s l) (λ c. c .owner) in
     let v = lowest (cellAt s l) (λ c. c .valid) in
     let b = lowest (cellAt s l) (λ c. c .backup) in
-    by-pick (λ y. y ≡ x) (ltb o 9)
+    split (ltb o 9)
     (λ t.
     let h = ltb-true o 9 t in
     let own = bit-of (cellAt s l o .owner) (lowest-has s l (λ c. c .owner) h) in
-    k .words o h (of-bit (cellAt s l o .valid) (omega (arith, marks w l o hl h .owner-valid))))
+    rw t (k .words o h (of-bit (cellAt s l o .valid) (omega (arith, marks w l o hl h .owner-valid)))))
     (λ f.
     let none = lowest-none s l (λ c. c .owner) (ltb-false o 9 f) in
-    by-pick (λ y. y ≡ x) (ltb v 9) (λ t. let h = ltb-true v 9 t in k .words v h (lowest-has s l (λ c. c .valid) h))
-    (λ _.
-    by-pick (λ y. y ≡ x) (ltb b 9) (λ t. let h = ltb-true b 9 t in k .saved none b h (lowest-has s l (λ c. c .backup) h))
+    split (ltb v 9) (λ t. let h = ltb-true v 9 t in rw (f, t) (k .words v h (lowest-has s l (λ c. c .valid) h)))
+    (λ g.
+    split (ltb b 9) (λ t. let h = ltb-true b 9 t in rw (f, g, t) (k .saved none b h (lowest-has s l (λ c. c .backup) h)))
     (λ u. absurd (omega (arith, none, lowest-none s l (λ c. c .backup) (ltb-false b 9 u), k .tally .copy)))))
 
 pub recreate-held : {s : State} (z : Sized s) (w : Well s) (e : Event) → Timeout s e → (W : ℕ → ℕ) → Held s W

@@ -4,7 +4,7 @@ use mathlib.Core.Path.{_≡_, refl}
 use mathlib.Core.Logic.{_≢_}
 use mathlib.Core.Bool.{true, false, or-true}
 use native.Mathlib.Omega.{arith}
-use borrow.Author.Tests.{ltb-false, leb-false, eqb-false, eq-eqb, not-false}
+use borrow.Author.Tests.{ltb-false, leb-false, eqb-false, eq-eqb}
 use lib.Dec.{eqb, ltb}
 use Rattle.rules.specs.Types.{Cell, State, Event}
 use Rattle.rules.specs.States.{cellAt, serialAt}
@@ -98,9 +98,14 @@ module _ (s : State) (e : Event) where
   unfolding Clear applies table
   caches k h g c = record { named = names k h c; cache = rw g at (c 5) }
 
+  -- no message of the line bears the next serial
+  time-unborne : (k : ℕ) → timeout k ≡ true → Clear (tableOf s e k) → unborne s (e .line) (next (serialAt s (e .line))) ≡ true
+  unfolding Clear applies table
+  time-unborne k g c = split (unborne s (e .line) (next (serialAt s (e .line)))) (λ t. t) (λ f. clash (rw (g, f)) (c 17))
+
   pub times : (k : ℕ) → slotted k ≡ false → timeout k ≡ true → Clear (tableOf s e k) → Timeout s e
   unfolding Clear applies table
-  times k h g c = record { named = names k h c; unborne = not-false _ (rw g at (c 17)); copy = rw g at (c 18) }
+  times k h g c = record { named = names k h c; unborne = time-unborne k g c; copy = rw g at (c 18) }
 
   -- a slot that holds a message
   pub slots : (k : ℕ) → slotted k ≡ true → Clear (tableOf s e k) → (e .amount < 64) × (freeAt s (e .amount) ≡ false)
@@ -118,6 +123,11 @@ module _ (s : State) (e : Event) where
   unfolding Clear applies table
   writes c = split (ableToWrite (s .sizes .total .0) (cellOf s e)) (λ t. t) (λ f. clash (rw f) (c 13))
 
+  -- an owner that sends the owner token is not blocked
+  owner-unblocked : Clear (tableOf s e 2) → eqb (e .owner) 1 ≡ true → cellOf s e .blocked ≡ false
+  unfolding Clear applies table
+  owner-unblocked c h = split (cellOf s e .blocked) (λ t. clash (rw (h, t)) (c 10)) (λ f. f)
+
   pub sends : Clear (tableOf s e 2) → Sends s e
   unfolding Clear applies table lowestFree
   sends c =
@@ -133,7 +143,7 @@ module _ (s : State) (e : Event) where
         keeps = amount-keeps e x (c 8);
         owner = owner-owned e x (c 9);
         full = owner-full e x (c 9);
-        unblocked = λ h. rw h at (c 10);
+        unblocked = owner-unblocked c;
         valid = λ h. split (x .valid) (λ t. t) (λ f. clash (rw (h, f)) (c 11));
         room = room;
         free = first-hit 64 (λ i. freeAt s i) room;

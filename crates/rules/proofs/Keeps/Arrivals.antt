@@ -1,17 +1,17 @@
 -- A delivery and a drop keep a state well formed. Assumes nothing.
 use Prim.Native.Nat.{ℕ, _+_, _≤_, _<_}
 use mathlib.Core.Path.{_≡_, refl, ap, subst}
-use mathlib.Core.Bool.{true, false, cond as pick}
+use mathlib.Core.Bool.{Bool, true, false, cond as pick}
 use native.Mathlib.Omega.{arith}
 use lib.Dec.{eqb}
 use Rattle.rules.specs.Types.{Cell, MessageKind, Free, Tokens, OwnershipAck, DeletionAck, Message, State, Event, Arrival, Stepped}
 use Rattle.rules.specs.States.{slotAt, serialAt, freeMessage, bears, withSlot}
 use Rattle.rules.specs.WellFormed.{messageFine, counted, inCells, inMessages, held, borne, tokensOf}
-use Rattle.rules.specs.Cells.{received, settled, unbacked, unblocked}
+use Rattle.rules.specs.Cells.{received, settled, unblocked}
 use Rattle.rules.specs.Refusals.{freeAt}
 use Rattle.rules.specs.Effects.{answer, ack, target, landed, emptied, arrival, discarded, arrive, replyOf, leaves, deliverOf}
-use Rattle.rules.proofs.Laws.Bools.{by-pick}
-use Rattle.rules.proofs.Laws.Cells.{received-is}
+use Rattle.rules.proofs.Laws.Bools.{split, by-pick}
+use Rattle.rules.proofs.Laws.Cells.{by-marks}
 use Rattle.rules.proofs.Laws.Views.{Sized, same-cell}
 use Rattle.rules.proofs.Laws.Bears.{Off, Like, apart, off-free, off-line, counts, counts-none, cell-share, message-share, bears-its}
 use Rattle.rules.proofs.Laws.Changes.{Changed, landed-changes}
@@ -31,6 +31,16 @@ joining s i = settled (s .sizes .total .0) (received (slotAt s i) (target s (slo
 abbrev pub Live : State → ℕ → Type 0
 Live s i = eqb (slotAt s i .serial .0) (current s i) ≡ true
 
+-- the second cell is the first without its backup
+pub record Unbacked (x c : Cell) : Type 0 where
+  pub count : held c ≡ held x
+  pub owner : c .owner ≡ x .owner
+  pub blocked : c .blocked ≡ x .blocked
+  pub backup : c .backup ≡ false
+  pub valid : c .valid ≡ x .valid
+  pub word : c .word ≡ x .word
+  pub ok : {n : ℕ} {memory : Bool} → CellOk n memory x → CellOk n memory c
+
 -- what a delivery or a drop makes of the target's cell and of the slot
 pub data Arrives (s : State) (i : ℕ) : Cell → Message → Type 0 where
   gone : Arrives s i (target s (slotAt s i)) freeMessage
@@ -38,7 +48,8 @@ pub data Arrives (s : State) (i : ℕ) : Cell → Message → Type 0 where
   ownership : Live s i → slotAt s i .kind ≡ Tokens → slotAt s i .owner ≡ true
       → Arrives s i (joining s i) (ack OwnershipAck (current s i) (slotAt s i))
   acknowledged : Live s i → slotAt s i .kind ≡ OwnershipAck → target s (slotAt s i) .backup ≡ true
-      → Arrives s i (unbacked (target s (slotAt s i))) (ack DeletionAck (current s i) (slotAt s i))
+      → {c : Cell} → Unbacked (target s (slotAt s i)) c
+      → Arrives s i c (ack DeletionAck (current s i) (slotAt s i))
   deleted : Live s i → slotAt s i .kind ≡ DeletionAck → target s (slotAt s i) .blocked ≡ true
       → Arrives s i (unblocked (target s (slotAt s i))) freeMessage
 
@@ -82,7 +93,8 @@ module _ (s : State) (i : ℕ) where
       (λ f. lands (arrival (joining s i) Free _) refl (tokens g e f))
   arrivals g OwnershipAck e =
       by-pick (λ a. Landed s i (leaves s i (current s i) (slotAt s i) a)) (target s (slotAt s i) .backup)
-      (λ t. lands (arrival (unbacked (target s (slotAt s i))) DeletionAck (answer 0 1 i)) refl (acknowledged g e t))
+      (λ t. lands (arrival _ DeletionAck _) refl (acknowledged g e t
+      (record { count = refl; owner = refl; blocked = refl; backup = refl; valid = refl; word = refl; ok = unbacked-ok })))
       (λ _. discards)
   arrivals g DeletionAck e =
       by-pick (λ a. Landed s i (leaves s i (current s i) (slotAt s i) a)) (target s (slotAt s i) .blocked)
@@ -93,7 +105,7 @@ pub delivers : (s : State) (e : Event) → Landed s (e .amount) (deliverOf s e)
 unfolding deliverOf
 delivers s e =
     let i = e .amount in
-    by-pick (Landed s i) (eqb (slotAt s i .serial .0) (current s i)) (λ g. arrivals s i g (slotAt s i .kind) refl) (λ _. empties s i)
+    split (eqb (slotAt s i .serial .0) (current s i)) (λ g. rw g (arrivals s i g (slotAt s i .kind) refl)) (λ f. rw f (empties s i))
 
 module _ {s : State} (z : Sized s) (w : Well s) (i : ℕ) (hi : i < 64) (f : freeAt s i ≡ false) where
   pub landed-change : (c : Cell) (r : Message)
@@ -136,7 +148,10 @@ module _ {s : State} (z : Sized s) (w : Well s) (i : ℕ) (hi : i < 64) (f : fre
       → held (joining s i) ≤ held (target s (slotAt s i)) + counted (slotAt s i .line) (current s i) borne (slotAt s i)
   joined-count g =
       let m = slotAt s i in
-      omega (arith, ap held (received-is m (target s m)), counts (m .line) (current s i) borne m (live-bears g))
+      let y = counts (m .line) (current s i) borne m (live-bears g) in
+      by-marks (λ c. held c ≤ held (target s m) + counted (m .line) (current s i) borne m) m (target s m) (λ _ _. omega arith) (λ _ _. omega arith)
+      (λ _ _. omega arith)
+      (λ _ _. omega arith)
 
   sound : {c : Cell} {r : Message} → Arrives s i c r → Sound c r
   sound gone =
@@ -165,10 +180,10 @@ module _ {s : State} (z : Sized s) (w : Well s) (i : ℕ) (hi : i < 64) (f : fre
         none = refl;
         count = joined-count g;
       }
-  sound (acknowledged g e _) =
+  sound (acknowledged g e _ u) =
       let a = slot-address w i hi f in
       record {
-        cell = unbacked-ok (cell-in w (a .line) (a .destination));
+        cell = u .ok (cell-in w (a .line) (a .destination));
         reply = fine-deletion (s .sizes) a (serial-small w (a .line));
         off = off-line (ack DeletionAck (current s i) (slotAt s i));
         none = refl;

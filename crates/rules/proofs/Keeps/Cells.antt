@@ -1,17 +1,17 @@
 -- The rules of a cell, as facts; each change of a cell keeps them. Assumes nothing.
 use Prim.Native.Nat.{ℕ, _+_, _≤_}
-use mathlib.Core.Path.{_≡_, refl, sym, subst}
+use mathlib.Core.Path.{_≡_, refl}
 use mathlib.Core.Logic.{_≢_}
-use mathlib.Core.Bool.{Bool, true, false, _||_, cond as pick}
-use native.Mathlib.Nat.{le-refl}
+use mathlib.Core.Bool.{Bool, true, false, and-false}
 use native.Mathlib.Omega.{arith}
 use borrow.Author.Tests.{eqb-true, leb-true, le-leb, ltb-true, ltb-false}
 use lib.Dec.{eqb, ltb}
 use Rattle.rules.specs.Types.{Want, Cell, Message}
 use Rattle.rules.specs.Cells.{ableToRead, ableToWrite, backUp, cleared, give, isNothing, received, recreated, served, settled, unbacked, unblocked, wantAfter, withWant, written}
 use Rattle.rules.specs.WellFormed.{cellZero, cellRules}
-use Rattle.rules.proofs.Laws.Bools.{bit, clash, never, split, by-pick, and-both, and-right, every-all, all-every, bit-not, bit-small, not-bit-le, imp-bit, bit-imp, imp-some, some-imp, imp-none, none-imp, imp-then, then-imp}
-use Rattle.rules.proofs.Laws.Cells.{combined, received-is}
+use Rattle.rules.proofs.Laws.Bools.{bit, clash, never, split, by-pick, every-all, all-every, bit-of, bit-not, bit-small, not-bit-le, imp-bit, bit-imp, imp-some, some-imp, imp-none, none-imp, imp-then, then-imp}
+use Rattle.rules.proofs.Laws.Cells.{by-marks}
+use Rattle.rules.proofs.Laws.Sole.{Cleared}
 
 -- what a cell's marks need
 pub record Marks (c : Cell) : Type 0 where
@@ -47,27 +47,26 @@ cleared-zero c h = let e = every-all _ h in all-every _ (search depth 12)
 -- what a cell that is able to read, or to write, has
 pub able-read : (c : Cell) → ableToRead c ≡ true → c .valid ≡ true
 unfolding ableToRead
-able-read c h = and-right (ltb 0 (c .tokens .0)) (c .valid) h
+able-read c h = split (c .valid) (λ t. t) (λ f. clash h (rw (f, and-false)))
 
 pub record Able (n : ℕ) (c : Cell) : Type 0 where
   pub all : c .tokens .0 ≡ n
   pub valid : c .valid ≡ true
 
-pub able-write : (n : ℕ) (c : Cell) → ableToWrite n c ≡ true → Able n c
+able-all : (n : ℕ) (c : Cell) → ableToWrite n c ≡ true → c .tokens .0 ≡ n
 unfolding ableToWrite
-able-write n c h = let b = and-both (eqb (c .tokens .0) n) (c .valid) h in record { all = eqb-true (c .tokens .0) n (b .0); valid = b .1 }
+able-all n c h = split (eqb (c .tokens .0) n) (λ t. eqb-true (c .tokens .0) n t) (λ f. clash h (rw f))
 
--- marks that are joined, in order
-or-bits : (a b x y : Bool) → bit a ≤ bit b → bit x ≤ bit y → bit (a || x) ≤ bit (b || y)
-or-bits true true x y p q = omega arith
-or-bits true false x y p q = absurd (omega arith)
-or-bits false true x y p q = bit-small x
-or-bits false false x y p q = q
+able-valid : (n : ℕ) (c : Cell) → ableToWrite n c ≡ true → c .valid ≡ true
+unfolding ableToWrite
+able-valid n c h = split (c .valid) (λ t. t) (λ f. clash h (rw (f, and-false)))
 
--- no data came and there was none
-no-data : (f v : Bool) (a b : ℕ) → (v ≡ false → b ≡ 0) → f || v ≡ false → pick f a b ≡ 0
-no-data true v a b g h = clash refl h
-no-data false v a b g h = g h
+pub able-write : (n : ℕ) (c : Cell) → ableToWrite n c ≡ true → Able n c
+able-write n c h = record { all = able-all n c h; valid = able-valid n c h }
+
+-- a cell that a recreation clears has no token and no mark
+pub cleared-bare : (c : Cell) → Cleared (cleared c)
+cleared-bare c = record { none = refl; valid = refl; owner = refl; blocked = refl; backup = refl }
 
 module _ {n : ℕ} {memory : Bool} {c : Cell} (k : CellOk n memory c) where
   pub written-ok : (w : ℕ) → c .valid ≡ true → CellOk n memory (written w c)
@@ -114,7 +113,8 @@ module _ {n : ℕ} {memory : Bool} {c : Cell} (k : CellOk n memory c) where
   pub received-ok : (m : Message) → c .tokens .0 + m .tokens .0 ≤ n → 1 ≤ m .tokens .0
       → bit (m .owner) ≤ bit (m .full) → CellOk n memory (received m c)
   received-ok m h t f =
-      let v = bit-small (m .full || c .valid) in
-      let u = no-data (m .full) (c .valid) (m .word) (c .word) (k .no-word) in
-      let j : CellOk n memory (combined (m .tokens .0) (m .owner) (m .full) (m .word) c) = search (arith, or-bits, le-refl, u) in
-      subst (CellOk n memory) (sym (received-is m c)) j
+      let o = bit-small (c .owner) in
+      let b = bit-small (c .blocked) in
+      by-marks (CellOk n memory) m c (λ _ _. search (arith, never)) (λ y d. absurd (omega (arith, bit-of (m .owner) y, bit-not (m .full) d)))
+      (λ _ _. search (arith, never))
+      (λ _ _. search arith)

@@ -18,8 +18,8 @@ use Rattle.rules.proofs.Laws.Bools.{split, by-pick}
 use Rattle.rules.proofs.Laws.Sums.{sum-zero}
 use Rattle.rules.proofs.Laws.Views.{Sized}
 use Rattle.rules.proofs.Laws.Bears.{bears-free, counts-not}
-use Rattle.rules.proofs.Laws.Sole.{Sole, sole-cells, sole-messages}
-use Rattle.rules.proofs.Keeps.Cells.{CellOk, ok-cell}
+use Rattle.rules.proofs.Laws.Sole.{Cleared, Sole, sole-cells, sole-messages}
+use Rattle.rules.proofs.Keeps.Cells.{CellOk, ok-cell, cleared-bare}
 use Rattle.rules.proofs.Keeps.Messages.{fine-free}
 use Rattle.rules.proofs.Keeps.Well.{Well, WellIn, SizesOk, sizes-ok}
 
@@ -87,7 +87,7 @@ module _ (c l n : ℕ) (fine : sizesFine (sizes c l n) ≡ true) where
       record {
         node9 = omega (arith, z .caches);
         cell = at-memory k hk;
-        other = λ j hj d. (zeroCell, at-zero k j (omega (arith, z .lines)) hj (λ q. absurd (d q)));
+        other = λ j hj d. subst Cleared (sym (at-zero k j (omega (arith, z .lines)) hj (λ q. absurd (d q)))) (cleared-bare zeroCell);
         unborne = unborne k;
       }
 
@@ -123,7 +123,7 @@ module _ (c l n : ℕ) (fine : sizesFine (sizes c l n) ≡ true) where
   few : (k : ℕ) → k < 16 → tokensOf (fresh c l n) k ≤ n
   unfolding tokensOf inCells inMessages
   few k hk =
-      split (ltb k l) (λ t. let h = sole k (ltb-true k l t) in omega (arith, sole-cells h held (λ _. refl), sole-messages h borne))
+      split (ltb k l) (λ t. let h = sole k (ltb-true k l t) in omega (arith, sole-cells h held (λ _ b. b .none), sole-messages h borne))
       (λ f.
       omega (
         arith,

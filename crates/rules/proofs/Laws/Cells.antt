@@ -1,22 +1,16 @@
--- What a cell is after a token message arrived, field by field. Assumes nothing.
-use Prim.Native.Nat.{ℕ, _+_}
-use mathlib.Core.Bool.{Bool, true, false, _||_, cond as pick}
-use mathlib.Core.Path.{_≡_, refl}
+-- What a token message makes of a cell, by its two marks. Assumes nothing.
+use mathlib.Core.Bool.{true, false}
+use mathlib.Core.Path.{_≡_}
 use Rattle.rules.specs.Types.{Cell, Message}
-use Rattle.rules.specs.Tools.{when}
-use Rattle.rules.specs.Cells.{withTokens, withData, withRole, take, fill, block, received}
+use Rattle.rules.specs.Cells.{take, fill, block, received}
+use Rattle.rules.proofs.Laws.Bools.{by-pick}
 
--- the cell c after t tokens came, with the marks o for owner and f for data, and the word w
-abbrev pub combined : ℕ → Bool → Bool → ℕ → Cell → Cell
-combined t o f w c =
-    withTokens (c .tokens .0 + t) (withData (f || c .valid) (pick f w (c .word)) (withRole (o || c .owner) (o || c .blocked) c))
-
-joins : (t : ℕ) (o f : Bool) (w : ℕ) (c : Cell) → when o block (when f (fill w) (take t c)) ≡ combined t o f w c
-joins t true true w c = refl
-joins t true false w c = refl
-joins t false true w c = refl
-joins t false false w c = refl
-
-pub received-is : (m : Message) (c : Cell) → received m c ≡ combined (m .tokens .0) (m .owner) (m .full) (m .word) c
+pub by-marks : (P : Cell → Type 0) (m : Message) (c : Cell)
+    → (m .owner ≡ true → m .full ≡ true → P (block (fill (m .word) (take (m .tokens .0) c))))
+    → (m .owner ≡ true → m .full ≡ false → P (block (take (m .tokens .0) c)))
+    → (m .owner ≡ false → m .full ≡ true → P (fill (m .word) (take (m .tokens .0) c)))
+    → (m .owner ≡ false → m .full ≡ false → P (take (m .tokens .0) c))
+    → P (received m c)
 unfolding received
-received-is m c = joins (m .tokens .0) (m .owner) (m .full) (m .word) c
+by-marks P m c both owner full none =
+    by-pick P (m .owner) (λ o. by-pick (λ x. P (block x)) (m .full) (both o) (owner o)) (λ o. by-pick P (m .full) (full o) (none o))

@@ -6,23 +6,30 @@ use mathlib.Core.Bool.{false}
 use Rattle.rules.specs.Types.{Cell, Message, State}
 use Rattle.rules.specs.States.{cellAt, slotAt, serialAt, bears}
 use Rattle.rules.specs.WellFormed.{inCells, inMessages}
-use Rattle.rules.specs.Cells.{cleared}
 use Rattle.rules.proofs.Laws.Sums.{sum-only, sum-zero}
 use Rattle.rules.proofs.Laws.Bears.{counts-not}
+
+-- a cell with no token and no mark
+pub record Cleared (c : Cell) : Type 0 where
+  pub none : c .tokens .0 ≡ 0
+  pub valid : c .valid ≡ false
+  pub owner : c .owner ≡ false
+  pub blocked : c .blocked ≡ false
+  pub backup : c .backup ≡ false
 
 -- the line's cell at node n is x, every other is cleared, and no message counts on the line
 pub record Sole (s : State) (l n : ℕ) (x : Cell) : Type 0 where
   pub node9 : n < 9
   pub cell : cellAt s l n ≡ x
-  pub other : (j : ℕ) → j < 9 → j ≢ n → (c : Cell) × (cellAt s l j ≡ cleared c)
+  pub other : (j : ℕ) → j < 9 → j ≢ n → Cleared (cellAt s l j)
   pub unborne : (i : ℕ) → i < 64 → bears l (serialAt s l) (slotAt s i) ≡ false
 
 module _ {s : State} {l n : ℕ} {x : Cell} (h : Sole s l n x) where
   -- a number that is 0 at cleared cells: its sum over the line is the one cell's
-  pub sole-cells : (f : Cell → ℕ) → ((c : Cell) → f (cleared c) ≡ 0) → inCells s l f ≡ f x
+  pub sole-cells : (f : Cell → ℕ) → ((c : Cell) → Cleared c → f c ≡ 0) → inCells s l f ≡ f x
   unfolding inCells
   sole-cells f z =
-      sum-only 9 n {f = λ j. f (cellAt s l j)} (h .node9) (λ j hj d. let o = h .other j hj d in ap f (o .1) ∙ z (o .0))
+      sum-only 9 n {f = λ j. f (cellAt s l j)} (h .node9) (λ j hj d. z (cellAt s l j) (h .other j hj d))
       ∙ ap f (h .cell)
 
   pub sole-messages : (f : Message → ℕ) → inMessages s l f ≡ 0
