@@ -244,7 +244,8 @@ loop-less-2 c = fewer (slot-of (message-of (arrival-of (c .before .before .befor
 
 loop-again-2 : tie.Need-loop-again-2 Inv-loop2 μ-loop2 Inv-loop3 μ-loop3 Inv-loop μ-loop
 loop-again-2 c =
-    let g = c .before .before .before .before in
+    let stored = c in
+    let g = stored .before .before .before .before in
     let a = arrival-of g in
     let m = message-of a in
     let e = slot-of (m .before) in
@@ -252,7 +253,7 @@ loop-again-2 c =
     goes-on (l .inv) (e .before .before .loop-test .taken) (event-at e)
     (slot-turn _ (l .inv .sized) (l .inv .well) _ _ (l .inv .tagged) (l .inv .slots) (m .before .before .before .if1 .taken) (m .before .slot-refusal .ensures) (m .if2 .left)
     (place-of a .place .ensures .1) (row-of a .row .ensures .1) (l .inv .sizes) (a .arrived .ensures) (g .before .reply .ensures) (g .tag .ensures))
-    (c .before .before .put2 .ensures)
+    (stored .before .before .put2 .ensures)
 
 place-requires-2 : tie.Need-place-requires-2 Inv-loop2 μ-loop2 Inv-loop3 μ-loop3 Inv-loop μ-loop
 place-requires-2 c κs = tt
