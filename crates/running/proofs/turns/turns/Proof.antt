@@ -78,14 +78,20 @@ sender-of c = c .before .before .before .before
 abbrev cell-of : tie.After-cell-refusal Inv-loop2 μ-loop2 Inv-loop3 μ-loop3 Inv-loop μ-loop → tie.After-q2 Inv-loop2 μ-loop2 Inv-loop3 μ-loop3 Inv-loop μ-loop
 cell-of c = c .before .before
 
+abbrev gathering-of : tie.At-loop2 Inv-loop2 μ-loop2 Inv-loop3 μ-loop3 Inv-loop μ-loop → tie.After-cell-refusal Inv-loop2 μ-loop2 Inv-loop3 μ-loop3 Inv-loop μ-loop
+gathering-of c = c .before .before .before .before
+
 abbrev cause-of : tie.After-loop2 Inv-loop2 μ-loop2 Inv-loop3 μ-loop3 Inv-loop μ-loop → tie.After-cell-refusal Inv-loop2 μ-loop2 Inv-loop3 μ-loop3 Inv-loop μ-loop
-cause-of c = let e = c .before .before .before in e .before .before
+cause-of c = gathering-of (c .before)
 
 abbrev serial-of : tie.After-renewal-refusal Inv-loop2 μ-loop2 Inv-loop3 μ-loop3 Inv-loop μ-loop → tie.After-next-serial Inv-loop2 μ-loop2 Inv-loop3 μ-loop3 Inv-loop μ-loop
 serial-of c = c .before .before .before .before
 
 abbrev line-of : tie.After-renewal-refusal Inv-loop2 μ-loop2 Inv-loop3 μ-loop3 Inv-loop μ-loop → tie.After-loop2 Inv-loop2 μ-loop2 Inv-loop3 μ-loop3 Inv-loop μ-loop
 line-of c = serial-of c .before
+
+abbrev storing-of : tie.At-loop3 Inv-loop2 μ-loop2 Inv-loop3 μ-loop3 Inv-loop μ-loop → tie.Else7 Inv-loop2 μ-loop2 Inv-loop3 μ-loop3 Inv-loop μ-loop
+storing-of c = c .before .before .before
 
 abbrev renewal-of : tie.Else7 Inv-loop2 μ-loop2 Inv-loop3 μ-loop3 Inv-loop μ-loop → tie.After-renewal-refusal Inv-loop2 μ-loop2 Inv-loop3 μ-loop3 Inv-loop μ-loop
 renewal-of c = c .before .before .before .before .before
@@ -442,7 +448,7 @@ loop2-less c = search needs
 loop2-again : tie.Need-loop2-again Inv-loop2 μ-loop2 Inv-loop3 μ-loop3 Inv-loop μ-loop
 loop2-again c =
     let w = c .before .before .loop2 in
-    let x = cell-of (c .before .before .before .before .before .before) in (
+    let x = cell-of (gathering-of (c .before .before)) in (
       omega arith,
       simp length-set (w .inv .1),
       table-more zeroCell (λ j y. y ≡ getD (turn (event-of x) .loop .t .cells) (x .before .before .row2 .result * 9 + j) zeroCell) (w .nine) (w .from) _ (omega (arith, w .inv)) (w .inv .2) refl,
@@ -505,14 +511,14 @@ renewed-requires : tie.Need-renewed-requires Inv-loop2 μ-loop2 Inv-loop3 μ-loo
 renewed-requires c κs = tt
 
 add-t135 : tie.Need-add-t135 Inv-loop2 μ-loop2 Inv-loop3 μ-loop3 Inv-loop μ-loop
-add-t135 c = omega (arith, row-below (c .before .before .before .before .before .before))
+add-t135 c = omega (arith, row-below (storing-of (c .before .before .before)))
 
 mul-t139 : tie.Need-mul-t139 Inv-loop2 μ-loop2 Inv-loop3 μ-loop3 Inv-loop μ-loop
-mul-t139 c = omega (arith, row-below (c .before .before .before .before .before .before))
+mul-t139 c = omega (arith, row-below (storing-of (c .before .before .before)))
 
 element-set-from-t-5 :
     tie.Need-element-set-from-t-5 Inv-loop2 μ-loop2 Inv-loop3 μ-loop3 Inv-loop μ-loop
-element-set-from-t-5 c = omega (arith, row-below (c .before .before .before .before .before .before))
+element-set-from-t-5 c = omega (arith, row-below (storing-of (c .before .before .before)))
 
 add-to : tie.Need-add-to Inv-loop2 μ-loop2 Inv-loop3 μ-loop3 Inv-loop μ-loop
 add-to c = search needs
