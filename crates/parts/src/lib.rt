@@ -1,5 +1,3 @@
+// What one event does to the cell, the slot and the line that it touches.
 pub mod changes;
-pub mod places;
-pub mod refusals;
 pub mod renewals;
-pub mod tags;

@@ -13,9 +13,9 @@ use Rattle.rules.specs.WellFormed.{wellFormed}
 use Rattle.rules.specs.Refusals.{reading, slotted, sending, cellOf}
 use Rattle.rules.specs.Effects.{answer, answered, readOf, writeOf, wantOf, effect}
 use Rattle.parts.specs.Changes.{wantedBy, touchedCell}
-use Rattle.parts.specs.Places.{placeOf}
-use Rattle.parts.specs.Rows.{cellRefusal}
-use Rattle.parts.specs.Tags.{Tagged}
+use Rattle.numbers.specs.Places.{placeOf}
+use Rattle.numbers.specs.Rows.{cellRefusal}
+use Rattle.numbers.specs.Tags.{Tagged}
 use Rattle.rules.proofs.Laws.Bools.{clash}
 use Rattle.rules.proofs.Laws.Views.{same-cell}
 use Rattle.rules.proofs.Keeps.Accepted.{by-kind}

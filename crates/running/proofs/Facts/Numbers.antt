@@ -10,7 +10,7 @@ use borrow.Author.Tests.{ltb-true, ltb-false, leb-false, eqb-true, eqb-false, eq
 use Rattle.running.specs.Types.{Cell, Sizes, State, Event}
 use Rattle.rules.specs.WellFormed.{wellFormed}
 use Rattle.rules.specs.Refusals.{Row, seen, given, table, tableOf, refusal, timeout, slotted, sending, delivering, cellOf, freeAt, lowestFree}
-use Rattle.parts.specs.Rows.{before, from, slotSight, sendRefusal, cellRefusal}
+use Rattle.numbers.specs.Rows.{before, from, slotSight, sendRefusal, cellRefusal}
 use Rattle.rules.proofs.Laws.Bools.{split, and-left, and-right, or-left, or-right}
 use Rattle.rules.proofs.Laws.Rows.{ascends, table-ascends}
 

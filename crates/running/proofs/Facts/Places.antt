@@ -2,7 +2,7 @@
 use Prim.Native.Nat.{ℕ, _+_, _*_, _<_}
 use mathlib.Core.Path.{_≡_}
 use borrow.Author.Tests.{lt-ltb}
-use Rattle.parts.specs.Places.{rowOf, placeOf}
+use Rattle.numbers.specs.Places.{rowOf, placeOf}
 
 pub row-is : {line r : ℕ} → r ≡ rowOf line → line < 16 → r ≡ line
 unfolding rowOf

@@ -11,7 +11,7 @@ use Rattle.running.specs.Types.{Sizes, State, Event, Answer}
 use Rattle.rules.specs.WellFormed.{wellFormed}
 use Rattle.rules.specs.Effects.{answer, stepOf}
 use Rattle.rules.specs.Runs.{runOf, answersOf, wordsOf, eventOf, eventsTo}
-use Rattle.parts.specs.Tags.{Tagged}
+use Rattle.numbers.specs.Tags.{Tagged}
 use Rattle.running.specs.Words.{answerSet}
 use Rattle.rules.proofs.Laws.Views.{Sized}
 use Rattle.rules.proofs.Keeps.Shapes.{step-keeps-sized, step-keeps-sizes}

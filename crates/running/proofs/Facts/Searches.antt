@@ -14,8 +14,8 @@ use Rattle.rules.specs.States.{slotAt, isFree, bears}
 use Rattle.rules.specs.WellFormed.{wellFormed}
 use Rattle.rules.specs.Refusals.{freeAt, lowest, copyless, lowestFree, unborne}
 use Rattle.rules.specs.Effects.{wordFor, recreatedLine}
-use Rattle.parts.specs.Tags.{tagOf, Tagged, firstUntagged, absent}
-use Rattle.parts.specs.Rows.{slotSight, slotRefusal}
+use Rattle.numbers.specs.Tags.{tagOf, Tagged, firstUntagged, absent}
+use Rattle.numbers.specs.Rows.{slotSight, slotRefusal}
 use Rattle.rules.specs.Refusals.{table, given}
 use Rattle.rules.proofs.Laws.Bools.{split}
 use Rattle.rules.proofs.Keeps.Well.{well-address}

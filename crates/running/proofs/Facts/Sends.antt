@@ -15,9 +15,9 @@ use Rattle.rules.specs.WellFormed.{wellFormed}
 use Rattle.rules.specs.Refusals.{refusal, table, tableOf, given, sending, cellOf, lowestFree}
 use Rattle.rules.specs.Effects.{answer, sentCell, sentMessage, sendOf, effect}
 use Rattle.parts.specs.Changes.{cut}
-use Rattle.parts.specs.Places.{rowOf, placeOf}
-use Rattle.parts.specs.Rows.{sendRefusal}
-use Rattle.parts.specs.Tags.{tagOf, Tagged, firstUntagged}
+use Rattle.numbers.specs.Places.{rowOf, placeOf}
+use Rattle.numbers.specs.Rows.{sendRefusal}
+use Rattle.numbers.specs.Tags.{tagOf, Tagged, firstUntagged}
 use Rattle.rules.proofs.Laws.Bools.{split, or-left}
 use Rattle.rules.proofs.Laws.Rows.{Clear}
 use Rattle.rules.proofs.Laws.Views.{Sized}

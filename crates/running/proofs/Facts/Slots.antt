@@ -15,9 +15,9 @@ use Rattle.rules.specs.WellFormed.{wellFormed}
 use Rattle.rules.specs.Refusals.{refusal, delivering, slotted, freeAt}
 use Rattle.rules.specs.Effects.{answer, target, emptied, discarded, arrive, replyOf, leaves, deliverOf, effect, stepOf}
 use Rattle.parts.specs.Changes.{fits, lost, arriveOf}
-use Rattle.parts.specs.Places.{rowOf, placeOf}
-use Rattle.parts.specs.Rows.{slotRefusal}
-use Rattle.parts.specs.Tags.{tagOf, slotTag, Tagged}
+use Rattle.numbers.specs.Places.{rowOf, placeOf}
+use Rattle.numbers.specs.Rows.{slotRefusal}
+use Rattle.numbers.specs.Tags.{tagOf, slotTag, Tagged}
 use Rattle.rules.proofs.Laws.Bools.{split}
 use Rattle.rules.proofs.Laws.Views.{Sized, same-cell}
 use Rattle.rules.proofs.Keeps.Numbers.{step-effect}

@@ -15,10 +15,10 @@ use Rattle.rules.specs.States.{cellAt, serialAt, withCells, withSerial}
 use Rattle.rules.specs.WellFormed.{wellFormed}
 use Rattle.rules.specs.Refusals.{refusal, table, tableOf, given, timeout, slotted, sending, next, unborne}
 use Rattle.rules.specs.Effects.{answer, wordFor, afterRecreation, recreatedLine, recreateOf}
-use Rattle.parts.specs.Nines.{nth}
-use Rattle.parts.specs.Places.{rowOf, placeOf}
-use Rattle.parts.specs.Rows.{from, cellRefusal, renewalRefusal}
-use Rattle.parts.specs.Tags.{tagOf, Tagged, absent}
+use Rattle.numbers.specs.Places.{rowOf, placeOf}
+use Rattle.numbers.specs.Rows.{from, cellRefusal}
+use Rattle.parts.specs.Nines.{nth, renewalRefusal}
+use Rattle.numbers.specs.Tags.{tagOf, Tagged, absent}
 use Rattle.rules.proofs.Laws.Bools.{by-pick}
 use Rattle.rules.proofs.Keeps.Numbers.{step-effect, timeout-effect}
 use Rattle.rules.proofs.Keeps.Well.{well-sizes}

@@ -12,7 +12,7 @@ use Rattle.running.specs.Types.{Message, State, Event, Answer, Stepped}
 use Rattle.rules.specs.States.{freeMessage}
 use Rattle.rules.specs.Refusals.{refusal}
 use Rattle.rules.specs.Effects.{answer, stepOf}
-use Rattle.parts.specs.Tags.{slotTag, Tagged}
+use Rattle.numbers.specs.Tags.{slotTag, Tagged}
 use Rattle.rules.proofs.Keeps.Numbers.{step-refused}
 
 -- the tags of the slots, after one is replaced

@@ -1,4 +1,5 @@
-use Rattle.parts.specs.Rows.{from, renewalRefusal}
+use Rattle.numbers.specs.Rows.{from}
+use Rattle.parts.specs.Nines.{renewalRefusal}
 use Rattle.rules.specs.Refusals.{table, given}
 use borrow.Author.Needs.{needs}
 use Rattle.parts.proofs.renewals.renewal_refusal.Statement.{statement}

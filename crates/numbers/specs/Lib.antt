@@ -1,0 +1,4 @@
+pub mod Types
+pub mod Places
+pub mod Rows
+pub mod Tags
