@@ -1,3 +1,4 @@
+use Rattle.running.proofs.Facts.Places.{cell-fits}
 use lib.ListN.{length, getD, length-set, drop}
 use lib.Dec.{eqb}
 use mathlib.Core.Bool.{false, _||_}
@@ -163,10 +164,10 @@ slot-refusal-requires :
 slot-refusal-requires c κs = tt
 
 put-requires : tie.Need-put-requires Inv-loop2 μ-loop2 Inv-loop3 μ-loop3 Inv-loop μ-loop
-put-requires c κs = search needs
+put-requires c κs = room (slot-of (c .before .before))
 
 loop-less : tie.Need-loop-less Inv-loop2 μ-loop2 Inv-loop3 μ-loop3 Inv-loop μ-loop
-loop-less c = search needs
+loop-less c = fewer (slot-of (c .before .before .before .before .before))
 
 loop-again : tie.Need-loop-again Inv-loop2 μ-loop2 Inv-loop3 μ-loop3 Inv-loop μ-loop
 loop-again c =
@@ -204,24 +205,24 @@ row-requires c κs = tt
 
 element-copy-out-q :
     tie.Need-element-copy-out-q Inv-loop2 μ-loop2 Inv-loop3 μ-loop3 Inv-loop μ-loop
-element-copy-out-q c = search needs
+element-copy-out-q c = c .row .ensures .0
 
 mul-x : tie.Need-mul-x Inv-loop2 μ-loop2 Inv-loop3 μ-loop3 Inv-loop μ-loop
-mul-x c = search needs
+mul-x c = cell-fits (c .before .before .before .place .ensures .0)
 
 element-copy-out-x :
     tie.Need-element-copy-out-x Inv-loop2 μ-loop2 Inv-loop3 μ-loop3 Inv-loop μ-loop
-element-copy-out-x c = search needs
+element-copy-out-x c = c .before .before .before .place .ensures .0
 
 arrived-requires : tie.Need-arrived-requires Inv-loop2 μ-loop2 Inv-loop3 μ-loop3 Inv-loop μ-loop
 arrived-requires c κs = tt
 
 mul-cell : tie.Need-mul-cell Inv-loop2 μ-loop2 Inv-loop3 μ-loop3 Inv-loop μ-loop
-mul-cell c = search needs
+mul-cell c = cell-fits (place-of (c .before .before) .place .ensures .0)
 
 element-set-from-cell :
     tie.Need-element-set-from-cell Inv-loop2 μ-loop2 Inv-loop3 μ-loop3 Inv-loop μ-loop
-element-set-from-cell c = search needs
+element-set-from-cell c = place-of (c .before .before) .place .ensures .0
 
 reply-requires : tie.Need-reply-requires Inv-loop2 μ-loop2 Inv-loop3 μ-loop3 Inv-loop μ-loop
 reply-requires c κs = tt
@@ -268,15 +269,15 @@ row-requires-2 : tie.Need-row-requires-2 Inv-loop2 μ-loop2 Inv-loop3 μ-loop3 I
 row-requires-2 c κs = tt
 
 mul-x-2 : tie.Need-mul-x-2 Inv-loop2 μ-loop2 Inv-loop3 μ-loop3 Inv-loop μ-loop
-mul-x-2 c = search needs
+mul-x-2 c = cell-fits (c .before .place2 .ensures .0)
 
 element-copy-out-x-2 :
     tie.Need-element-copy-out-x-2 Inv-loop2 μ-loop2 Inv-loop3 μ-loop3 Inv-loop μ-loop
-element-copy-out-x-2 c = search needs
+element-copy-out-x-2 c = c .before .place2 .ensures .0
 
 element-copy-out-q-2 :
     tie.Need-element-copy-out-q-2 Inv-loop2 μ-loop2 Inv-loop3 μ-loop3 Inv-loop μ-loop
-element-copy-out-q-2 c = search needs
+element-copy-out-q-2 c = c .before .row2 .ensures .0
 
 lowest-free-requires :
     tie.Need-lowest-free-requires Inv-loop2 μ-loop2 Inv-loop3 μ-loop3 Inv-loop μ-loop
@@ -287,10 +288,10 @@ send-refusal-requires :
 send-refusal-requires c κs = tt
 
 put-requires-3 : tie.Need-put-requires-3 Inv-loop2 μ-loop2 Inv-loop3 μ-loop3 Inv-loop μ-loop
-put-requires-3 c κs = search needs
+put-requires-3 c κs = room (event-of (sender-of (c .before .before)))
 
 loop-less-3 : tie.Need-loop-less-3 Inv-loop2 μ-loop2 Inv-loop3 μ-loop3 Inv-loop μ-loop
-loop-less-3 c = search needs
+loop-less-3 c = fewer (event-of (sender-of (c .before .before .before .before .before)))
 
 loop-again-3 : tie.Need-loop-again-3 Inv-loop2 μ-loop2 Inv-loop3 μ-loop3 Inv-loop μ-loop
 loop-again-3 c =
@@ -308,11 +309,11 @@ sent-cell-requires :
 sent-cell-requires c κs = tt
 
 mul-t92 : tie.Need-mul-t92 Inv-loop2 μ-loop2 Inv-loop3 μ-loop3 Inv-loop μ-loop
-mul-t92 c = search needs
+mul-t92 c = cell-fits (sender-of (c .before .before) .before .before .before .place2 .ensures .0)
 
 element-set-from-t-2 :
     tie.Need-element-set-from-t-2 Inv-loop2 μ-loop2 Inv-loop3 μ-loop3 Inv-loop μ-loop
-element-set-from-t-2 c = search needs
+element-set-from-t-2 c = sender-of (c .before .before) .before .before .before .place2 .ensures .0
 
 sent-message-requires :
     tie.Need-sent-message-requires Inv-loop2 μ-loop2 Inv-loop3 μ-loop3 Inv-loop μ-loop
@@ -365,10 +366,10 @@ cell-refusal-requires :
 cell-refusal-requires c κs = tt
 
 put-requires-5 : tie.Need-put-requires-5 Inv-loop2 μ-loop2 Inv-loop3 μ-loop3 Inv-loop μ-loop
-put-requires-5 c κs = search needs
+put-requires-5 c κs = room (event-of (cell-of (c .before .before)))
 
 loop-less-5 : tie.Need-loop-less-5 Inv-loop2 μ-loop2 Inv-loop3 μ-loop3 Inv-loop μ-loop
-loop-less-5 c = search needs
+loop-less-5 c = fewer (event-of (cell-of (c .before .before .before .before .before)))
 
 loop-again-5 : tie.Need-loop-again-5 Inv-loop2 μ-loop2 Inv-loop3 μ-loop3 Inv-loop μ-loop
 loop-again-5 c =
@@ -385,11 +386,11 @@ touch-requires : tie.Need-touch-requires Inv-loop2 μ-loop2 Inv-loop3 μ-loop3 I
 touch-requires c κs = tt
 
 mul-t110 : tie.Need-mul-t110 Inv-loop2 μ-loop2 Inv-loop3 μ-loop3 Inv-loop μ-loop
-mul-t110 c = search needs
+mul-t110 c = cell-fits (cell-of (c .before .before .before) .before .before .before .place2 .ensures .0)
 
 element-set-from-t-4 :
     tie.Need-element-set-from-t-4 Inv-loop2 μ-loop2 Inv-loop3 μ-loop3 Inv-loop μ-loop
-element-set-from-t-4 c = search needs
+element-set-from-t-4 c = cell-of (c .before .before .before) .before .before .before .place2 .ensures .0
 
 either-requires : tie.Need-either-requires Inv-loop2 μ-loop2 Inv-loop3 μ-loop3 Inv-loop μ-loop
 either-requires c κs = tt
@@ -398,7 +399,7 @@ put-requires-6 : tie.Need-put-requires-6 Inv-loop2 μ-loop2 Inv-loop3 μ-loop3 I
 put-requires-6 c κs = room (event-of (cell-of (c .before .before .before .before .before)))
 
 loop-less-6 : tie.Need-loop-less-6 Inv-loop2 μ-loop2 Inv-loop3 μ-loop3 Inv-loop μ-loop
-loop-less-6 c = search needs
+loop-less-6 c = let g = c .before .before .before .before .before in fewer (event-of (cell-of (g .before .before .before)))
 
 loop-again-6 : tie.Need-loop-again-6 Inv-loop2 μ-loop2 Inv-loop3 μ-loop3 Inv-loop μ-loop
 loop-again-6 c =
