@@ -61,7 +61,7 @@ last-word {s} w l hl x k =
     let none = lowest-none s l (λ c. c .owner) (ltb-false o 9 f) in
     split (ltb v 9) (λ t. let h = ltb-true v 9 t in rw (f, t) (k .words v h (lowest-has s l (λ c. c .valid) h)))
     (λ g.
-    split (ltb b 9) (λ t. let h = ltb-true b 9 t in rw (f, g, t) (k .saved none b h (lowest-has s l (λ c. c .backup) h)))
+    split (ltb b 9) (λ t. let h = ltb-true b 9 t in simp (f, g, t) (k .saved none b h (lowest-has s l (λ c. c .backup) h)))
     (λ u. absurd (omega (arith, none, lowest-none s l (λ c. c .backup) (ltb-false b 9 u), k .tally .copy)))))
 
 pub recreate-held : {s : State} (z : Sized s) (w : Well s) (e : Event) → Timeout s e → (W : ℕ → ℕ) → Held s W

@@ -77,13 +77,13 @@ module _ (e : Event) (x : Cell) where
   amount-within h = split (ltb (x .tokens .0) (e .amount)) (λ t. clash (rw (t, or-true)) h) (λ f. ltb-false _ _ f)
 
   amount-keeps : wrongAmount e x ≡ false → eqb (e .owner) 1 ≡ false → x .owner ≡ true → e .amount ≢ x .tokens .0
-  amount-keeps h f o q = clash (rw (f, o, eq-eqb (e .amount) (x .tokens .0) q, or-true)) h
+  amount-keeps h f o q = clash (simp (f, o, eq-eqb (e .amount) (x .tokens .0) q, or-true)) h
 
   owner-owned : wrongOwner e x ≡ false → eqb (e .owner) 1 ≡ true → x .owner ≡ true
   owner-owned h t = split (x .owner) (λ o. o) (λ f. clash (rw (t, f)) h)
 
   owner-full : wrongOwner e x ≡ false → eqb (e .owner) 1 ≡ true → eqb (e .full) 1 ≡ true
-  owner-full h t = split (eqb (e .full) 1) (λ o. o) (λ f. clash (rw (t, f, or-true)) h)
+  owner-full h t = split (eqb (e .full) 1) (λ o. o) (λ f. clash (simp (t, f, or-true)) h)
 
 module _ (s : State) (e : Event) where
   pub names : (k : ℕ) → slotted k ≡ false → Clear (tableOf s e k) → Named s e

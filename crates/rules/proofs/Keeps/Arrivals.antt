@@ -1,6 +1,6 @@
 -- A delivery and a drop keep a state well formed. Assumes nothing.
 use Prim.Native.Nat.{ℕ, _+_, _≤_, _<_}
-use mathlib.Core.Path.{_≡_, refl, ap, subst}
+use mathlib.Core.Path.{_≡_, refl, sym, ap, subst}
 use mathlib.Core.Bool.{Bool, true, false, cond as pick}
 use native.Mathlib.Omega.{arith}
 use lib.Dec.{eqb}
@@ -81,6 +81,22 @@ module _ (s : State) (i : ℕ) where
   unfolding replyOf
   discards = lands (discarded (target s (slotAt s i))) refl gone
 
+  -- an ownership acknowledgment takes away the backup that it finds, and is answered; without one it is discarded
+  abbrev acked : Arrival
+  acked = arrive (s .sizes .total .0) i (target s (slotAt s i)) (slotAt s i) OwnershipAck
+
+  unbacks : target s (slotAt s i) .backup ≡ true → Unbacked (target s (slotAt s i)) (acked .cell)
+  unfolding arrive
+  unbacks t = rw t (record { count = refl; owner = refl; blocked = refl; backup = refl; valid = refl; word = refl; ok = unbacked-ok })
+
+  confirms : target s (slotAt s i) .backup ≡ true → acked .reply ≡ DeletionAck
+  unfolding arrive
+  confirms t = rw t
+
+  unheld : target s (slotAt s i) .backup ≡ false → acked ≡ discarded (target s (slotAt s i))
+  unfolding arrive
+  unheld f = rw f
+
   arrivals : Live s i → (k : MessageKind) → slotAt s i .kind ≡ k
       → Landed s i (leaves s i (current s i) (slotAt s i) (arrive (s .sizes .total .0) i (target s (slotAt s i)) (slotAt s i) k))
   unfolding arrive replyOf
@@ -92,10 +108,10 @@ module _ (s : State) (i : ℕ) where
       (λ t. lands (arrival (joining s i) OwnershipAck _) refl (ownership g e t))
       (λ f. lands (arrival (joining s i) Free _) refl (tokens g e f))
   arrivals g OwnershipAck e =
-      by-pick (λ a. Landed s i (leaves s i (current s i) (slotAt s i) a)) (target s (slotAt s i) .backup)
-      (λ t. lands (arrival _ DeletionAck _) refl (acknowledged g e t
-      (record { count = refl; owner = refl; blocked = refl; backup = refl; valid = refl; word = refl; ok = unbacked-ok })))
-      (λ _. discards)
+      split (target s (slotAt s i) .backup)
+      (λ t.
+      lands acked (rw t) (subst (λ k. Arrives s i (acked .cell) (replyOf k (current s i) (slotAt s i))) (sym (confirms t)) (acknowledged g e t (unbacks t))))
+      (λ f. subst (λ a. Landed s i (leaves s i (current s i) (slotAt s i) a)) (sym (unheld f)) discards)
   arrivals g DeletionAck e =
       by-pick (λ a. Landed s i (leaves s i (current s i) (slotAt s i) a)) (target s (slotAt s i) .blocked)
       (λ t. lands (arrival (unblocked (target s (slotAt s i))) Free (answer 0 1 64)) refl (deleted g e t))

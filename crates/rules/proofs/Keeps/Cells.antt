@@ -55,11 +55,11 @@ pub record Able (n : ℕ) (c : Cell) : Type 0 where
 
 able-all : (n : ℕ) (c : Cell) → ableToWrite n c ≡ true → c .tokens .0 ≡ n
 unfolding ableToWrite
-able-all n c h = split (eqb (c .tokens .0) n) (λ t. eqb-true (c .tokens .0) n t) (λ f. clash h (rw f))
+able-all n c h = split (eqb (c .tokens .0) n) (λ t. eqb-true (c .tokens .0) n t) (λ f. clash h (simp f))
 
 able-valid : (n : ℕ) (c : Cell) → ableToWrite n c ≡ true → c .valid ≡ true
 unfolding ableToWrite
-able-valid n c h = split (c .valid) (λ t. t) (λ f. clash h (rw (f, and-false)))
+able-valid n c h = split (c .valid) (λ t. t) (λ f. clash h (simp (f, and-false)))
 
 pub able-write : (n : ℕ) (c : Cell) → ableToWrite n c ≡ true → Able n c
 able-write n c h = record { all = able-all n c h; valid = able-valid n c h }
