@@ -5,8 +5,8 @@ use mathlib.Core.List.{List}
 use native.Mathlib.Omega.{arith}
 use lib.ListN.{length, take}
 use Rattle.trace.specs.Arrivals.{wholeOf}
-use Rattle.trace.specs.declared.kept.Turned.{Turned}
-use Rattle.trace.specs.Chunks.{Lent}
+use Rattle.trace.specs.declared.turning.Turned.{Turned}
+use Rattle.lines.specs.Chunks.{Lent}
 use Rattle.trace.proofs.Turns.{Fits}
 use Rattle.tokens.specs.Rooms.{Room}
 

@@ -13,13 +13,13 @@ use Rattle.text.specs.Lines.{linesOf, firstLine, passedBy}
 use Rattle.text.specs.Reading.{numbersOf}
 use Rattle.text.proofs.Bools.{and-both}
 use Rattle.text.proofs.Lines.{free, lines-free}
-use Rattle.trace.specs.declared.kept.Kept.{Kept}
-use Rattle.trace.specs.Program.{nothingKept, lineDoes, keptAfter, keptBy, printedBy, program}
+use Rattle.lines.specs.declared.kept.Kept.{Kept}
+use Rattle.lines.specs.Program.{nothingKept, lineDoes, keptAfter, keptBy, printedBy, program}
 use Rattle.trace.specs.Arrivals.{wholeOf, readyIn, clipped, answeredIn, heldAfter, turned, Prints, ended, part, last}
-use Rattle.trace.specs.Chunks.{Lent, mostLines, lentAfter}
-use Rattle.trace.proofs.Lists.{printed-append, lines-split}
+use Rattle.lines.specs.Chunks.{Lent, mostLines, lentAfter}
+use Rattle.lines.proofs.Lists.{printed-append, lines-split}
 use Rattle.trace.proofs.Wholes.{cut, whole-drop, lines-whole, no-feed}
-use Rattle.trace.proofs.Sizes.{passed-by-within, passed-all, written-fits}
+use Rattle.lines.proofs.Sizes.{passed-by-within, passed-all, written-fits}
 
 -- some lines first, then the others
 pub in-turn : (n : ℕ) (s : List ℕ) (k : Kept)

@@ -9,13 +9,13 @@ use lib.Dec.{eqb, leb}
 use lib.ListN.{length, take, drop, length-take, length-drop}
 use lib.Seq.{sets, sets-eq, take-append-seam, take-all, take-take, take-add, drop-at, length-take-le}
 use Rattle.text.specs.Lines.{passedBy}
-use Rattle.trace.specs.declared.kept.Kept.{Kept}
-use Rattle.trace.specs.declared.kept.Advanced.{Advanced}
-use Rattle.trace.specs.declared.kept.Turned.{Turned}
-use Rattle.trace.specs.Chunks.{Lent, mostLines, advanced, lentAfter}
+use Rattle.lines.specs.declared.kept.Kept.{Kept}
+use Rattle.lines.specs.declared.kept.Advanced.{Advanced}
+use Rattle.trace.specs.declared.turning.Turned.{Turned}
+use Rattle.lines.specs.Chunks.{Lent, mostLines, advanced, lentAfter}
 use Rattle.trace.specs.Arrivals.{wholeOf, readyIn, clipped, heldAfter, turned}
 use Rattle.trace.proofs.Wholes.{cut}
-use Rattle.trace.proofs.Sizes.{read-within, written-fits}
+use Rattle.lines.proofs.Sizes.{read-within, written-fits}
 
 -- so many bytes of a list, all of which lie in it
 abbrev pub Front : List ℕ → ℕ → List ℕ → Type 0

@@ -5,10 +5,10 @@ use mathlib.Core.List.{List, [], _∷_, _++_}
 use lib.Dec.{eqb}
 use lib.ListN.{length, take, drop}
 use Rattle.text.specs.Lines.{linesOf, passedBy}
-use Rattle.trace.specs.declared.kept.Kept.{Kept}
-use Rattle.trace.specs.declared.kept.Turned.{Turned}
-use Rattle.trace.specs.Program.{keptBy, printedBy}
-use Rattle.trace.specs.Chunks.{Lent, mostLines}
+use Rattle.lines.specs.declared.kept.Kept.{Kept}
+use Rattle.trace.specs.declared.turning.Turned.{Turned}
+use Rattle.lines.specs.Program.{keptBy, printedBy}
+use Rattle.lines.specs.Chunks.{Lent, mostLines}
 
 -- how many bytes the whole lines are: up to the last line feed
 unfoldable pub wholeOf : List ℕ → ℕ

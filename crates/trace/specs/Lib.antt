@@ -1,4 +1,1 @@
-pub mod Program
-pub mod Chunks
 pub mod Arrivals
-pub mod Parts

@@ -1,13 +1,9 @@
-// The program `tokens` as a library: lines of text in, lines of text out, and what is kept between them. No input or output here.
-mod advancing;
-mod events;
+// The program `tokens` as a library: lines of text in, lines of text out, and what is held between them. No input or output here.
 mod holding;
-mod kept;
-mod starting;
 mod turning;
 
 pub use holding::whole;
-pub use kept::Kept;
-pub use kept::Turned;
-pub use starting::unstarted;
+pub use lines::Kept;
+pub use lines::unstarted;
+pub use turning::Turned;
 pub use turning::turn;

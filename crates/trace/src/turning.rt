@@ -1,15 +1,21 @@
 // One turn of the program.
-use crate::advancing::advance;
 use crate::holding::hold;
 use crate::holding::ready;
-use crate::kept::Kept;
-use crate::kept::Turned;
+use lines::Kept;
+use lines::advance;
 ghost use mathlib.Core.Path.{_≡_};
 ghost use lib.ListN.{take};
 ghost use lib.Seq.{sets};
-ghost use Rattle.trace.specs.Chunks.{lent, lentAfter, mostLines};
+ghost use Rattle.lines.specs.Chunks.{lent, lentAfter, mostLines};
 ghost use Rattle.trace.specs.Arrivals.{readyIn, heldAfter, turned};
 use text::least;
+
+// What is kept after a turn, how many bytes are held at the front, and how many were put for the lines answered.
+pub struct Turned {
+    pub kept: Kept,
+    pub held: usize,
+    pub written: usize,
+}
 
 // Answers lines of the first bytes of `buf`, whole ones or, at the end of input, all, as many as the lists lent have room
 // for, into `out`; then moves what is still to be answered to the front of `buf`.

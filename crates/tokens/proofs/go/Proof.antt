@@ -1,6 +1,6 @@
 use native.Mathlib.Omega.{arith}
 use denote.Ref.{now}
-use Rattle.trace.specs.Chunks.{lent}
+use Rattle.lines.specs.Chunks.{lent}
 use Rattle.trace.proofs.Turns.{fits}
 use Rattle.tokens.proofs.Rooms.{room-after}
 use borrow.Author.Needs.{needs}

@@ -2,7 +2,7 @@ use Prim.Native.Nat.{_-_}
 use native.Mathlib.Omega.{arith}
 use lib.ListN.{length-take}
 use denote.Ref.{now}
-use Rattle.trace.specs.Chunks.{lent}
+use Rattle.lines.specs.Chunks.{lent}
 use Rattle.trace.proofs.Turns.{read-fits, turn-is}
 use borrow.Author.Needs.{needs}
 use Rattle.trace.proofs.turning.turn.Statement.{statement}

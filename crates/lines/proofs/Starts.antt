@@ -23,11 +23,11 @@ use Rattle.text.proofs.Lines.{lines-some, passed-nil}
 use Rattle.text.proofs.Events.{next-any}
 use Rattle.writing.specs.Writing.{answerText, putAt, putCount}
 use Rattle.writing.proofs.Puts.{answer-short, is-put}
-use Rattle.trace.specs.declared.kept.Kept.{Kept}
-use Rattle.trace.specs.declared.kept.Advanced.{Advanced}
-use Rattle.trace.specs.Program.{unreadable, startLine, lineDoes, keptAfter, lineText, keptBy, printedBy}
-use Rattle.trace.specs.Chunks.{Lent, lent, mostLines, advanced, lentAfter}
-use Rattle.trace.specs.Parts.{running, startFields}
+use Rattle.lines.specs.declared.kept.Kept.{Kept}
+use Rattle.lines.specs.declared.kept.Advanced.{Advanced}
+use Rattle.lines.specs.Program.{unreadable, startLine, lineDoes, keptAfter, lineText, keptBy, printedBy}
+use Rattle.lines.specs.Chunks.{Lent, lent, mostLines, advanced, lentAfter}
+use Rattle.lines.specs.Parts.{running, startFields}
 
 is-running : (k : Kept) → k .started ≡ true → running (k .state) ≡ k
 is-running k e = λ i. record { started = sym e i; state = k .state }

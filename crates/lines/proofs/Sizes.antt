@@ -9,9 +9,9 @@ use lib.ListN.{length, drop, length-append, length-take, length-drop}
 use Rattle.rules.specs.declared.events.Answer.{Answer}
 use Rattle.text.specs.Lines.{linesOf, passed, passedBy}
 use Rattle.writing.proofs.Puts.{answer-short}
-use Rattle.trace.specs.declared.kept.Kept.{Kept}
-use Rattle.trace.specs.Program.{keptAfter, lineDoes, lineText, printedBy}
-use Rattle.trace.specs.Chunks.{Lent, mostLines, linesTaken, advanced}
+use Rattle.lines.specs.declared.kept.Kept.{Kept}
+use Rattle.lines.specs.Program.{keptAfter, lineDoes, lineText, printedBy}
+use Rattle.lines.specs.Chunks.{Lent, mostLines, linesTaken, advanced}
 
 text-short : (a : Answer) → length (lineText a) ≤ 33
 unfolding lineText

@@ -4,10 +4,10 @@ use crate::kept::Advanced;
 use crate::kept::Kept;
 use crate::starting::begin;
 ghost use mathlib.Core.Path.{_≡_};
-ghost use Rattle.trace.specs.Chunks.{lent, advanced, lentAfter};
+ghost use Rattle.lines.specs.Chunks.{lent, advanced, lentAfter};
 
 // Answers lines of `s`, as many as the lists lent have room for, into `out`. The first line of an input goes alone.
-pub(crate) fn advance(
+pub fn advance(
     kept: Kept,
     s: &[u8],
     words: &mut [u32],

@@ -3,8 +3,8 @@ use crate::kept::Advanced;
 use crate::kept::Kept;
 use rules::states::State;
 ghost use mathlib.Core.Path.{_≡_};
-ghost use Rattle.trace.specs.Chunks.{lent, advanced, lentAfter};
-ghost use Rattle.trace.specs.Parts.{running};
+ghost use Rattle.lines.specs.Chunks.{lent, advanced, lentAfter};
+ghost use Rattle.lines.specs.Parts.{running};
 use text::least;
 
 // As many lines as there is room for, by way of the lists lent. One batch runs all their events: a line that is not readable

@@ -13,7 +13,7 @@ use Rattle.rules.specs.Runs.{eventOf}
 use Rattle.text.specs.Lines.{linesOf}
 use Rattle.text.specs.Reading.{numbersOf, exactly}
 use Rattle.writing.specs.Writing.{answerText}
-use Rattle.trace.specs.declared.kept.Kept.{Kept}
+use Rattle.lines.specs.declared.kept.Kept.{Kept}
 
 -- what is kept before the first line
 abbrev pub nothingKept : Kept

@@ -13,10 +13,3 @@ pub struct Advanced {
     pub read: usize,
     pub written: usize,
 }
-
-// What is kept after a turn, how many bytes are held at the front, and how many were put for the lines answered.
-pub struct Turned {
-    pub kept: Kept,
-    pub held: usize,
-    pub written: usize,
-}

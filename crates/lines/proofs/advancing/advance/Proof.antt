@@ -1,9 +1,9 @@
 use denote.Ref.{now}
-use Rattle.trace.specs.Chunks.{lent}
-use Rattle.trace.proofs.Starts.{run-is, lists-aside}
+use Rattle.lines.specs.Chunks.{lent}
+use Rattle.lines.proofs.Starts.{run-is, lists-aside}
 use borrow.Author.Needs.{needs}
-use Rattle.trace.proofs.advancing.advance.Statement.{statement}
-use Rattle.trace.proofs.advancing.advance.Tie as tie
+use Rattle.lines.proofs.advancing.advance.Statement.{statement}
+use Rattle.lines.proofs.advancing.advance.Tie as tie
 
 run-requires : tie.Need-run-requires
 run-requires c κs = search needs

@@ -1,8 +1,8 @@
 use mathlib.Core.Path.{_∙_}
-use Rattle.trace.proofs.Starts.{start-three, start-other}
+use Rattle.lines.proofs.Starts.{start-three, start-other}
 use borrow.Author.Needs.{needs}
-use Rattle.trace.proofs.starting.start_line.Statement.{statement}
-use Rattle.trace.proofs.starting.start_line.Tie as tie
+use Rattle.lines.proofs.starting.start_line.Statement.{statement}
+use Rattle.lines.proofs.starting.start_line.Tie as tie
 
 array-read-start : tie.Need-array-read-start
 array-read-start c = search needs

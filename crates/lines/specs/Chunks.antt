@@ -7,9 +7,9 @@ use lib.Seq.{sets}
 use Rattle.rules.specs.Runs.{answersOf, eventsOf, wordsOf}
 use Rattle.text.specs.Lines.{linesOf, passedBy}
 use Rattle.text.specs.Chunks.{markOf, wordsIn}
-use Rattle.trace.specs.declared.kept.Kept.{Kept}
-use Rattle.trace.specs.declared.kept.Advanced.{Advanced}
-use Rattle.trace.specs.Program.{keptBy, printedBy}
+use Rattle.lines.specs.declared.kept.Kept.{Kept}
+use Rattle.lines.specs.declared.kept.Advanced.{Advanced}
+use Rattle.lines.specs.Program.{keptBy, printedBy}
 
 -- the lists that a call is lent: for the words of events, the marks of lines, the words of answers, the bytes of output
 pub record Lent : Type 0 where

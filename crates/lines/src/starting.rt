@@ -6,9 +6,9 @@ use rules::events::Stepped;
 ghost use mathlib.Core.Bool.{false};
 ghost use mathlib.Core.Path.{_≡_};
 ghost use mathlib.Core.List.{[]};
-ghost use Rattle.trace.specs.Chunks.{lent, advanced, lentAfter};
-ghost use Rattle.trace.specs.Program.{nothingKept};
-ghost use Rattle.trace.specs.Parts.{startFields};
+ghost use Rattle.lines.specs.Chunks.{lent, advanced, lentAfter};
+ghost use Rattle.lines.specs.Program.{nothingKept};
+ghost use Rattle.lines.specs.Parts.{startFields};
 
 // What is kept before the first line.
 pub fn unstarted() -> Kept

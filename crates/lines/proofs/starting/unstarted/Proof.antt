@@ -1,11 +1,11 @@
 use mathlib.Core.Path.{ap, _∙_}
-use Rattle.trace.proofs.Starts.{zero-start}
+use Rattle.lines.proofs.Starts.{zero-start}
 use mathlib.Core.Bool.{false}
 use Rattle.rules.specs.declared.states.State.{State}
 use Rattle.rules.specs.declared.events.Stepped.{Stepped}
 use borrow.Author.Needs.{needs}
-use Rattle.trace.proofs.starting.unstarted.Statement.{statement}
-use Rattle.trace.proofs.starting.unstarted.Tie as tie
+use Rattle.lines.proofs.starting.unstarted.Statement.{statement}
+use Rattle.lines.proofs.starting.unstarted.Tie as tie
 
 start-requires : tie.Need-start-requires
 start-requires c κs = search needs

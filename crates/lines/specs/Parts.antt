@@ -7,8 +7,8 @@ use lib.ListN.{getD}
 use Rattle.rules.specs.declared.states.State.{State}
 use Rattle.rules.specs.declared.events.Stepped.{Stepped}
 use Rattle.rules.specs.Fresh.{zeroState, startOf}
-use Rattle.trace.specs.declared.kept.Kept.{Kept}
-use Rattle.trace.specs.Program.{unreadable}
+use Rattle.lines.specs.declared.kept.Kept.{Kept}
+use Rattle.lines.specs.Program.{unreadable}
 
 -- what is kept after the start line
 abbrev pub running : State → Kept

@@ -6,8 +6,8 @@ use lib.ListN.{take, drop}
 use lib.Seq.{drop-drop, drop-nil, take-nil}
 use Rattle.text.specs.Lines.{linesOf, firstLine, passed, passedBy}
 use Rattle.text.proofs.Lines.{lines-cons}
-use Rattle.trace.specs.declared.kept.Kept.{Kept}
-use Rattle.trace.specs.Program.{keptAfter, keptBy, printedBy, lineText, lineDoes}
+use Rattle.lines.specs.declared.kept.Kept.{Kept}
+use Rattle.lines.specs.Program.{keptAfter, keptBy, printedBy, lineText, lineDoes}
 
 pub printed-append : (a b : List (List ℕ)) (k : Kept) → printedBy k (a ++ b) ≡ printedBy k a ++ printedBy (keptBy k a) b
 unfolding printedBy keptBy

@@ -1,9 +1,9 @@
 use native.Mathlib.Omega.{arith}
 use denote.Ref.{now}
-use Rattle.trace.proofs.Starts.{no-line, no-room, start-taken}
+use Rattle.lines.proofs.Starts.{no-line, no-room, start-taken}
 use borrow.Author.Needs.{needs}
-use Rattle.trace.proofs.starting.begin.Statement.{statement}
-use Rattle.trace.proofs.starting.begin.Tie as tie
+use Rattle.lines.proofs.starting.begin.Statement.{statement}
+use Rattle.lines.proofs.starting.begin.Tie as tie
 
 returns : tie.Need-returns
 returns c = no-line _ _ _ (c .before .before .before .pre) (c .if1 .taken)

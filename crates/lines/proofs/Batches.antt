@@ -20,9 +20,9 @@ use Rattle.text.specs.Lines.{linesOf}
 use Rattle.text.specs.Reading.{numbersOf, exactly}
 use Rattle.text.specs.Chunks.{known, isKnown, eventIn, markOf, wordsIn, room, Parses}
 use Rattle.writing.specs.Writing.{answerText, answersText, printed, printedCount}
-use Rattle.trace.specs.Program.{unreadable, eventLine, lineDoes, keptAfter, lineText, keptBy, printedBy}
-use Rattle.trace.specs.Chunks.{Lent, lent, mostLines, linesTaken, advanced, lentAfter}
-use Rattle.trace.specs.Parts.{running}
+use Rattle.lines.specs.Program.{unreadable, eventLine, lineDoes, keptAfter, lineText, keptBy, printedBy}
+use Rattle.lines.specs.Chunks.{Lent, lent, mostLines, linesTaken, advanced, lentAfter}
+use Rattle.lines.specs.Parts.{running}
 
 -- ---- the events among lines
 

@@ -1,10 +1,10 @@
 use native.Mathlib.Omega.{arith}
 use borrow.Author.Needs.{needs}
 use denote.Ref.{now}
-use Rattle.trace.specs.Chunks.{lent}
-use Rattle.trace.proofs.Batches.{parsed-within, chunk}
-use Rattle.trace.proofs.events.run.Statement.{statement}
-use Rattle.trace.proofs.events.run.Tie as tie
+use Rattle.lines.specs.Chunks.{lent}
+use Rattle.lines.proofs.Batches.{parsed-within, chunk}
+use Rattle.lines.proofs.events.run.Statement.{statement}
+use Rattle.lines.proofs.events.run.Tie as tie
 
 least-requires : tie.Need-least-requires
 least-requires c κs = search needs

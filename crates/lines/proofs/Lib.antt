@@ -1,0 +1,4 @@
+pub mod Lists
+pub mod Batches
+pub mod Starts
+pub mod Sizes
