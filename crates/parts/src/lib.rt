@@ -1,3 +1,2 @@
-// What one event does to the cell, the slot and the line that it touches.
+// What one event does to the cell and the slot that it touches.
 pub mod changes;
-pub mod renewals;

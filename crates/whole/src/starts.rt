@@ -4,7 +4,7 @@ ghost use Prim.Native.Nat.{_≤_};
 ghost use Rattle.rules.specs.States.{freeMessage};
 ghost use Rattle.rules.specs.Cells.{zeroCell};
 ghost use Rattle.rules.specs.Fresh.{memoryCell, freshCells, fresh as freshOf, startOf};
-use crate::checks::sizes_fine;
+use checks::sizes_fine;
 use rules::cells::Cell;
 use rules::choices::either;
 use rules::empties::empty_cell;

@@ -17,7 +17,7 @@ use Rattle.rules.specs.Refusals.{refusal, table, tableOf, given, timeout, slott
 use Rattle.rules.specs.Effects.{answer, wordFor, afterRecreation, recreatedLine, recreateOf}
 use Rattle.numbers.specs.Places.{rowOf, placeOf}
 use Rattle.numbers.specs.Rows.{from, cellRefusal}
-use Rattle.parts.specs.Nines.{nth, renewalRefusal}
+use Rattle.renewals.specs.Nines.{nth, renewalRefusal}
 use Rattle.numbers.specs.Tags.{tagOf, Tagged, absent}
 use Rattle.rules.proofs.Laws.Bools.{by-pick}
 use Rattle.rules.proofs.Keeps.Numbers.{step-effect, timeout-effect}
