@@ -10,7 +10,7 @@ add-t4 c = search needs
 
 returns : tie.Need-returns
 unfolding next
-returns c = rw (lt-ltb _ _ (c .before .if1 .taken), add-one)
+returns c = simp (lt-ltb _ _ (c .before .if1 .taken), add-one)
 
 returns-2 : tie.Need-returns-2
 unfolding next

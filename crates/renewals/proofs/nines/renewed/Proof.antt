@@ -14,11 +14,11 @@ clear-requires c κs = search needs
 
 returns : tie.Need-returns
 unfolding afterRecreation
-returns c = rw (c .settle .ensures, c .before .recreate .ensures, c .before .before .if1 .taken)
+returns c = simp (c .settle .ensures, c .before .recreate .ensures, c .before .before .if1 .taken)
 
 returns-2 : tie.Need-returns-2
 unfolding afterRecreation
-returns-2 c = rw (c .clear .ensures, c .before .if1 .left)
+returns-2 c = simp (c .clear .ensures, c .before .if1 .left)
 
 pub renewed-spec : {M : Type 1} → statement M
 renewed-spec =
