@@ -1,6 +1,5 @@
 -- The types of `rules`, under short names. Assumes nothing.
 pub use Rattle.rules.specs.declared.cells.Want.{Want}
-pub use Rattle.rules.specs.declared.cells.Want.the-variants.{Read, Write}
 pub use Rattle.rules.specs.declared.cells.Cell.{Cell}
 pub use Rattle.rules.specs.declared.messages.MessageKind.{MessageKind}
 pub use Rattle.rules.specs.declared.messages.MessageKind.the-variants.{Free, Tokens, OwnershipAck, DeletionAck}

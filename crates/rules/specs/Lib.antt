@@ -7,4 +7,3 @@ pub mod Fresh
 pub mod Refusals
 pub mod Effects
 pub mod Runs
-pub mod Tallies

@@ -1,5 +1,5 @@
 // The program `tokens`: lines of numbers from standard input or one file, an answer to each to standard output. What it is
-// to print is `program` of trace/specs. It reads, lets `trace::turn` answer, and writes; that such turns print no more and
+// to print is `program` of lines/specs. It reads, lets `trace::turn` answer, and writes; that such turns print no more and
 // no less, however the input arrives, is `arrives` in trace/proofs.
 mod reading;
 mod telling;

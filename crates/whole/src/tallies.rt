@@ -7,7 +7,7 @@ ghost use lib.Dec.{leb};
 ghost use Rattle.rules.specs.Tools.{allTo};
 ghost use Rattle.rules.specs.States.{bears as bearsOf};
 ghost use Rattle.rules.specs.WellFormed.{wellFormed, counted, borne, serialFineAt};
-ghost use Rattle.rules.specs.Tallies.{Added, LineChecked, CellsChecked, PoolChecked};
+ghost use Rattle.whole.specs.Tallies.{Added, LineChecked, CellsChecked, PoolChecked};
 use checks::cell_fine;
 use checks::message_fine;
 use checks::serial_fine;

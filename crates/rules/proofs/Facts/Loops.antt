@@ -1,4 +1,4 @@
--- Laws of `allTo`, `sumTo` and `fillTo` for loops that count up. Assumes nothing.
+-- Laws of `allTo`, `sumTo`, `fillTo` and of tables, for loops that count up. Assumes nothing.
 use Prim.Native.Nat.{ℕ, zero, suc, _+_, _<_}
 use mathlib.Core.Bool.{Bool, true, _&&_}
 use mathlib.Core.Path.{_≡_, refl, ap₂}
@@ -6,7 +6,8 @@ use native.Mathlib.Omega.{arith}
 use native.Mathlib.Decide.{ℕ-discrete}
 use native.Mathlib.Numerals.{add-one}
 use mathlib.Core.List.{List}
-use lib.ListN.{set}
+use lib.ListN.{length, getD, set}
+use lib.Seq.{getD-set-same, getD-set-other}
 use Rattle.rules.specs.Tools.{allTo, sumTo, fillTo}
 
 -- before the first turn, and after one turn more
@@ -47,3 +48,12 @@ fill-none at f l = refl
 pub fill-more : {A : Type 0} (k at : ℕ) (f : ℕ → A) (l : List A) {cs : List A} {x : A} → cs ≡ fillTo k at f l → x ≡ f k → set cs (at + k) x ≡ fillTo (k + 1) at f l
 unfolding fillTo
 fill-more k at f l h e = rw (add-one, h, e)
+
+-- what holds of the entries below i, and of the one that is stored at i
+pub table-more : {A : Type 0} (d : A) (P : ℕ → A → Type 0) (l : List A) (i : ℕ) (v : A) → i < length l
+    → ((k : ℕ) → k < i → P k (getD l k d)) → P i v → (k : ℕ) → k < i + 1 → P k (getD (set l i v) k d)
+table-more d P l i v fits h p k below =
+    elim (ℕ-discrete k i) [
+      | yes e ↦ rw (e, getD-set-same l i v d fits) p
+      | no n ↦ rw (getD-set-other l i k v d n) (h k (omega arith))
+    ]

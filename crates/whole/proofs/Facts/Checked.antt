@@ -7,10 +7,8 @@ use lib.Dec.{leb}
 use lib.ListN.{getD}
 use Rattle.whole.specs.Types.{State}
 use Rattle.rules.specs.Tools.{allTo}
-use Rattle.rules.specs.WellFormed.{sizesFine, inMessages, tokensOf, wellFormed}
-use Rattle.rules.specs.WellFormed.{serialFineAt}
-use Rattle.rules.specs.WellFormed.{borne}
-use Rattle.rules.specs.Tallies.{CellsChecked, PoolChecked}
+use Rattle.rules.specs.WellFormed.{sizesFine, serialFineAt, inMessages, borne, tokensOf, wellFormed}
+use Rattle.whole.specs.Tallies.{CellsChecked, PoolChecked}
 use Rattle.rules.proofs.Laws.Bools.{every-is}
 use Rattle.rules.proofs.Facts.Loops.{all-same}
 

@@ -1,4 +1,4 @@
-use Rattle.rules.proofs.Facts.Tables.{table-more}
+use Rattle.rules.proofs.Facts.Loops.{table-more}
 use Rattle.numbers.specs.Tags.{slotTag}
 use Rattle.rules.specs.States.{freeMessage}
 use lib.ListN.{length, getD, length-set}

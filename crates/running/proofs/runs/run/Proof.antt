@@ -18,7 +18,8 @@ same-length c = search needs
 
 returns : tie.Need-returns
 returns c =
-    let n = c .before .before .before .before .before .before in
+    let w = c .before .before .before in
+    let n = w .before .before .before in
     rw (← (n .count .ensures .2)) (c .before .before .turns .ensures)
 
 refuse-all-requires : tie.Need-refuse-all-requires

@@ -13,8 +13,7 @@ use Rattle.rules.specs.Refusals.{slotted, sending}
 use Rattle.rules.specs.Effects.{afterRecreation}
 use Rattle.rules.specs.Runs.{eventOf}
 use Rattle.renewals.specs.Nines.{nth}
-use Rattle.rules.proofs.Facts.Loops.{fill-none}
-use Rattle.rules.proofs.Facts.Tables.{table-more}
+use Rattle.rules.proofs.Facts.Loops.{fill-none, table-more}
 use Rattle.renewals.proofs.Words.{mapped-long}
 use Rattle.running.proofs.Facts.Searches.{slot-near}
 use Rattle.running.proofs.Facts.Slots.{slot-refused, slot-turn}

@@ -1,4 +1,4 @@
-use Rattle.rules.proofs.Facts.Tables.{message-adds, message-adds-few, message-adds-none}
+use Rattle.whole.proofs.Facts.Tables.{message-adds, message-adds-few, message-adds-none}
 use lib.ListN.{getD}
 use native.Mathlib.Omega.{arith}
 use borrow.Author.Needs.{needs}

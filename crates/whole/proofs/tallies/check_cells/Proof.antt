@@ -1,5 +1,5 @@
-use Rattle.rules.proofs.Facts.Tables.{table-more, line-checked}
-use Rattle.rules.proofs.Facts.Loops.{all-more, all-none}
+use Rattle.whole.proofs.Facts.Tables.{line-checked}
+use Rattle.rules.proofs.Facts.Loops.{all-more, all-none, table-more}
 use Rattle.rules.specs.WellFormed.{held, inCells, lineFine}
 use Rattle.rules.specs.Tools.{allTo}
 use lib.ListN.{getD, length, length-set}

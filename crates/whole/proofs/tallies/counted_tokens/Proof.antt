@@ -1,5 +1,5 @@
 use Rattle.rules.proofs.Laws.Bools.{told}
-use Rattle.rules.proofs.Facts.Tables.{counted-no, counted-yes}
+use Rattle.whole.proofs.Facts.Tables.{counted-no, counted-yes}
 use Rattle.rules.specs.States.{bears}
 use native.Mathlib.Omega.{arith}
 use borrow.Author.Needs.{needs}
