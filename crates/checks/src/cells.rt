@@ -1,5 +1,4 @@
-// The rules of a cell. A rule "a needs b" stands as `!a | b`, in the rule's own words; the tests are joined by `&`, which does not branch: nearly
-// always all of them pass.
+// The rules of a cell.
 ghost use mathlib.Core.Path.{_≡_};
 ghost use Rattle.rules.specs.WellFormed.{cellZero, cellRules, cellFine};
 use rules::cells::Cell;

@@ -1,5 +1,4 @@
-// The rules of a slot's message. A rule "a needs b" stands as `!a | b`, in the rule's own words; the tests are joined by `&`, which does not branch: nearly
-// always all of them pass.
+// The rules of a slot's message.
 ghost use mathlib.Core.Path.{_≡_};
 ghost use Rattle.rules.specs.WellFormed.{messageZero, addressFine, tokensFine, ackFine, messageFine};
 use rules::messages::Message;

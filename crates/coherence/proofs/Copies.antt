@@ -2,13 +2,13 @@
 use Prim.Native.Nat.{ℕ, _<_}
 use mathlib.Core.Path.{_≡_, refl, subst}
 use mathlib.Core.Logic.{_≢_}
-use mathlib.Core.Bool.{true, false, not}
+use mathlib.Core.Bool.{true, false}
 use native.Mathlib.Omega.{arith}
 use borrow.Author.Tests.{leb-false, eqb-true}
 use lib.Dec.{eqb, leb}
 use Rattle.coherence.specs.Types.{State, Event}
 use Rattle.rules.specs.States.{cellAt}
-use Rattle.rules.specs.Refusals.{timeout, slotted, copyless, seen, table, tableOf, given, refusal}
+use Rattle.rules.specs.Refusals.{timeout, slotted, copyless, seen, table, tableOf, refusal}
 use Rattle.rules.proofs.Laws.Bools.{clash, split, and-left, and-right}
 use Rattle.rules.proofs.Laws.Rows.{applies, given-applies, given-smallest}
 

@@ -1,1 +1,1 @@
-// Demand 3 as theorems over the rules of `model`: this crate has no code.
+// Demand 3 as theorems over the rules of `rules`: this crate has no code.

@@ -1,16 +1,10 @@
 -- A recreation as the code works it out, over a line's nine cells. Assumes nothing.
 use Prim.Native.Nat.{ℕ, _≤_, _<_}
-use mathlib.Core.Path.{_≡_, sym, _∙_}
-use mathlib.Core.List.{List, map}
-use lib.ListN.{length, length-map}
+use mathlib.Core.Path.{_≡_}
 use borrow.Author.Tests.{lt-ltb, le-ltb}
 use Rattle.rules.specs.declared.cells.Cell.{Cell}
 use Rattle.rules.specs.Refusals.{lowest}
 use Rattle.rules.specs.Effects.{wordFor}
-
--- the length of an array of structs, from what is known of it
-pub mapped-long : (A B : Type 0) (f : A → B) (l : List A) (n : ℕ) → length (map f l) ≡ n → length l ≡ n
-mapped-long A B f l n e = sym (length-map l f) ∙ e
 
 -- the word, by what the searches find
 module _ (cells : ℕ → Cell) {o : ℕ} (ho : o ≡ lowest cells (λ c. c .owner)) where

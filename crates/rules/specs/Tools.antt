@@ -1,6 +1,6 @@
 -- Small tools that the rules are written with. `pick test x y` is x where the test passes, else y: the kit's `cond`. Assumes nothing.
 use Prim.Native.Nat.{ℕ, zero, suc, _+_}
-use mathlib.Core.Bool.{Bool, true, false, not, _&&_, _||_, cond as pick}
+use mathlib.Core.Bool.{Bool, true, not, _&&_, _||_, cond as pick}
 use mathlib.Core.List.{List, [], _∷_}
 use lib.ListN.{set}
 

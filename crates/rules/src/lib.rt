@@ -1,3 +1,4 @@
+// The types of the model, the methods of a cell, and the empty things; the rules are in specs/.
 pub mod cells;
 pub mod choices;
 pub mod empties;

@@ -1,3 +1,4 @@
+-- Facts that the proofs of functions cite.
 pub mod Numbers
 pub mod Places
 pub mod Searches

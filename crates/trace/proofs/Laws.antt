@@ -1,4 +1,4 @@
--- What the definition of the program promises. Assumes nothing.
+-- What turns print: what the program does, however the input arrives. Assumes nothing.
 use Prim.Native.Nat.{ℕ, zero, suc, _<_}
 use mathlib.Core.Path.{_≡_, refl, sym, ap, subst, _∙_}
 use mathlib.Core.Bool.{Bool, true, false, not}
@@ -25,11 +25,6 @@ use Rattle.lines.proofs.Sizes.{passed-by-within, passed-all, written-fits}
 pub in-turn : (n : ℕ) (s : List ℕ) (k : Kept)
     → printedBy k (linesOf s) ≡ printedBy k (take n (linesOf s)) ++ printedBy (keptBy k (take n (linesOf s))) (linesOf (drop (passedBy n s) s))
 in-turn n s k = ap (printedBy k) (lines-split n s) ∙ printed-append (take n (linesOf s)) _ k
-
--- a chunk of whole lines first, then what follows it
-pub whole-first : (a b : List ℕ) (k : Kept) → wholeOf a ≡ length a
-    → printedBy k (linesOf (a ++ b)) ≡ printedBy k (linesOf a) ++ printedBy (keptBy k (linesOf a)) (linesOf b)
-whole-first a b k h = ap (printedBy k) (lines-whole a b h) ∙ printed-append (linesOf a) (linesOf b) k
 
 -- empty input prints nothing
 pub empty : program [] ≡ []

@@ -57,7 +57,7 @@ between d from to h k =
 -- what `hold` gives
 module _ (d : List ℕ) (from to n : ℕ) (h : from ≤ to) (k : to ≤ length d)
     (f : Front (take (to - from) (drop from d)) n (clipped (take (to - from) (drop from d)))) where
-  pub hold-fits : from + n ≤ length d
+  hold-fits : from + n ≤ length d
   hold-fits = let l = length-take (to - from) (drop from d) in let m = length-drop from d in let g = f .1 in omega arith
 
   hold-bytes : take n (drop from d) ≡ clipped (drop from (take to d))

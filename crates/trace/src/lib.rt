@@ -1,4 +1,4 @@
-// The program `tokens` as a library: lines of text in, lines of text out, and what is held between them. No input or output here.
+// One turn of the program `tokens`, and what is held between turns; what whole lines do is `lines`. No input or output here.
 mod holding;
 mod turning;
 

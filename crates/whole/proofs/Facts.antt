@@ -1,3 +1,4 @@
+-- Facts that the proofs of functions cite.
 pub mod Fresh
 pub mod Tables
 pub mod Checked

@@ -1,3 +1,4 @@
+// The whole state: its start, and whether it is well formed.
 mod starts;
 mod tallies;
 

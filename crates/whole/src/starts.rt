@@ -1,8 +1,6 @@
 // A start: the fresh state.
 ghost use mathlib.Core.Path.{_≡_};
 ghost use Prim.Native.Nat.{_≤_};
-ghost use Rattle.rules.specs.States.{freeMessage};
-ghost use Rattle.rules.specs.Cells.{zeroCell};
 ghost use Rattle.rules.specs.Fresh.{memoryCell, freshCells, fresh as freshOf, startOf};
 use checks::sizes_fine;
 use rules::cells::Cell;

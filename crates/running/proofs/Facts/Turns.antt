@@ -34,9 +34,6 @@ pub record Turned (t : State) (e : Event) (u : State) (a : Answer) (tags : List 
   pub tagged : Tagged tags (u .pool)
   pub slots : length tags ≡ 64
 
-pub same-turn : {t : State} {e : Event} {u v : State} {a b : Answer} {tags slots : List ℕ} → u ≡ v → tags ≡ slots → a ≡ b → Turned t e v b slots → Turned t e u a tags
-same-turn p q r d = rw (p, q, r) d
-
 -- from the whole step
 pub turn-of : (t : State) (e : Event) {r : Stepped} {u : State} {a : Answer} {tags : List ℕ} → stepOf t e ≡ r → u ≡ r .state → a ≡ r .answer → Tagged tags (u .pool) → length tags ≡ 64 → Turned t e u a tags
 turn-of t e h p q m l =

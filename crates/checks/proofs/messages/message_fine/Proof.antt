@@ -1,4 +1,3 @@
-use Rattle.rules.specs.Refusals.{given}
 use Rattle.rules.specs.WellFormed.{messageFine}
 use mathlib.Core.Bool.{_&&_}
 use mathlib.Core.Path.{_∙_, ap, ap₂, sym}

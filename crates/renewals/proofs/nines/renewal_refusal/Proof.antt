@@ -16,7 +16,7 @@ either-requires-2 c κs = search needs
 
 returns : tie.Need-returns
 unfolding renewalRefusal from table given
-returns c = cc
+returns c = simp (c .either2 .ensures, c .before .either .ensures, c .before .before .copyless .ensures)
 
 pub renewal-refusal-spec : {M : Type 1} → statement M
 renewal-refusal-spec =

@@ -1,4 +1,4 @@
-use Rattle.running.proofs.Facts.Places.{cell-fits}
+use Rattle.running.proofs.Facts.Places.{cell-fits, mapped-long}
 use lib.ListN.{length, getD, length-set, drop}
 use lib.Dec.{eqb}
 use mathlib.Core.Bool.{false, _||_}
@@ -14,7 +14,6 @@ use Rattle.rules.specs.Effects.{afterRecreation}
 use Rattle.rules.specs.Runs.{eventOf}
 use Rattle.renewals.specs.Nines.{nth}
 use Rattle.rules.proofs.Facts.Loops.{fill-none, table-more}
-use Rattle.renewals.proofs.Words.{mapped-long}
 use Rattle.running.proofs.Facts.Searches.{slot-near}
 use Rattle.running.proofs.Facts.Slots.{slot-refused, slot-turn}
 use Rattle.running.proofs.Facts.Cells.{cell-refused, touch-turn}

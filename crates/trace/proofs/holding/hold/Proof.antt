@@ -1,5 +1,5 @@
 use denote.Ref.{now}
-use Rattle.trace.proofs.Turns.{hold-fits, holds}
+use Rattle.trace.proofs.Turns.{holds}
 use borrow.Author.Needs.{needs}
 use Rattle.trace.proofs.holding.hold.Statement.{statement}
 use Rattle.trace.proofs.holding.hold.Tie as tie

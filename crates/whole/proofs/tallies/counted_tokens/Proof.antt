@@ -1,6 +1,5 @@
 use Rattle.rules.proofs.Laws.Bools.{told}
 use Rattle.whole.proofs.Facts.Tables.{counted-no, counted-yes}
-use Rattle.rules.specs.States.{bears}
 use native.Mathlib.Omega.{arith}
 use borrow.Author.Needs.{needs}
 use Rattle.whole.proofs.tallies.counted_tokens.Statement.{statement}
