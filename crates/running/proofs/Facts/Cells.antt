@@ -23,7 +23,7 @@ use Rattle.rules.proofs.Keeps.Numbers.{step-effect}
 use Rattle.rules.proofs.Keeps.Well.{well-sizes}
 use Rattle.running.proofs.Facts.Numbers.{cell-number, cell-stops, cell-same, cell-within, no-timeout}
 use Rattle.running.proofs.Facts.Places.{place-is}
-use Rattle.running.proofs.Facts.Turns.{Turned, turn-of, refused-turn}
+use Rattle.running.proofs.Facts.Turns.{StepTaken, turn-of, refused-turn}
 
 -- the cell that is loaded is the one that the event names, where there is one
 module _ (t : State) (w : wellFormed t ≡ true) (e : Event) {k : ℕ} (pk : k ≡ placeOf (e .line) (e .node)) where
@@ -63,7 +63,7 @@ module _ (t : State) (w : wellFormed t ≡ true) (e : Event) (tags : List ℕ) (
   pub cause-is : number ≡ cellRefusal (t .sizes) e (e .kind) (cellOf t e)
   cause-is = (rw hz at hm) ∙ cell-same (t .sizes) e (e .kind) (getD (t .cells) k zeroCell) (cellOf t e) (named t w e pk)
 
-  pub cell-refused : number ≢ 0 → {a : Answer} → a ≡ answer number 0 64 → Turned t e t a tags
+  pub cell-refused : number ≢ 0 → {a : Answer} → a ≡ answer number 0 64 → StepTaken t e t a tags
   cell-refused d g = refused-turn t e tagged slots (cell-stops t e w plain (λ q. d (cause-is ∙ q)) ∙ sym cause-is) d g
 
   module _ (accepted : number ≡ 0) where
@@ -72,7 +72,7 @@ module _ (t : State) (w : wellFormed t ≡ true) (e : Event) (tags : List ℕ) (
 
     pub touch-turn : e .kind < 7 → {y : Cell} {v : ℕ} {a : Answer} → y ≡ touchedCell e (e .kind) (getD (t .cells) k zeroCell)
         → v ≡ pick (reading (e .kind)) (getD (t .cells) k zeroCell .word) 0 → a ≡ answer 0 v 64
-        → Turned t e (record { sizes = t .sizes; serials = t .serials; cells = set (t .cells) k y; pool = t .pool }) a tags
+        → StepTaken t e (record { sizes = t .sizes; serials = t .serials; cells = set (t .cells) k y; pool = t .pool }) a tags
     unfolding withCell
     touch-turn l {y} {v} hy hv ha =
         let i = within in

@@ -16,7 +16,7 @@ use Rattle.running.specs.Words.{answerSet}
 use Rattle.rules.proofs.Laws.Views.{Sized}
 use Rattle.rules.proofs.Keeps.Shapes.{step-keeps-sized, step-keeps-sizes}
 use Rattle.rules.proofs.Keeps.Steps.{step-keeps-well-formed}
-use Rattle.running.proofs.Facts.Turns.{Turned}
+use Rattle.running.proofs.Facts.Turns.{StepTaken}
 
 -- an event read from the part of the words that holds it
 pub event-part : (ws : List ℕ) (k : ℕ) → k ≡ 8 → eventOf (take k ws) ≡ eventOf ws
@@ -73,7 +73,7 @@ begins n ws o s a b c d =
 
 -- a turn
 pub goes-on : {n : ℕ} {ws o₀ : List ℕ} {s : State} {z : Sizes} {o : List ℕ} {t : State} {tags : List ℕ} {i : ℕ} → Running n ws o₀ s z o t tags i → i < n
-    → {e : Event} → e ≡ eventOf (drop (i * 8) ws) → {u : State} {a : Answer} {tags′ : List ℕ} → Turned t e u a tags′
+    → {e : Event} → e ≡ eventOf (drop (i * 8) ws) → {u : State} {a : Answer} {tags′ : List ℕ} → StepTaken t e u a tags′
     → {o′ : List ℕ} → o′ ≡ answerSet o (i * 3) a → Running n ws o₀ s z o′ u tags′ (i + 1)
 unfolding runOf answersOf wordsOf
 goes-on {n} {ws} {o₀} {s} {z} {o} {t} {tags} {i} r l {e} he {u} {a} {tags′} d {o′} ho =

@@ -27,7 +27,7 @@ use Rattle.rules.proofs.Keeps.Well.{well-sizes, well-count}
 use Rattle.running.proofs.Facts.Numbers.{send-number}
 use Rattle.running.proofs.Facts.Places.{row-is}
 use Rattle.running.proofs.Facts.Searches.{free-found}
-use Rattle.running.proofs.Facts.Turns.{Turned, turn-of, tag-set, refused-turn}
+use Rattle.running.proofs.Facts.Turns.{StepTaken, turn-of, tag-set, refused-turn}
 use Rattle.running.proofs.Facts.Cells.{loaded, named}
 
 -- the rows that look at the sender's cell are asked only of a line and a node within the sizes
@@ -55,7 +55,7 @@ module _ (t : State) (sized : Sized t) (w : wellFormed t ≡ true) (e : Event) (
       ∙ sym (send-same (t .sizes) e (getD (t .cells) k zeroCell) (cellOf t e) (lowestFree t) (named t w e pk))
       ∙ sym (rw (hz, slot-is) at hm)
 
-  pub send-refused : number ≢ 0 → {a : Answer} → a ≡ answer number 0 64 → Turned t e t a tags
+  pub send-refused : number ≢ 0 → {a : Answer} → a ≡ answer number 0 64 → StepTaken t e t a tags
   send-refused d g = refused-turn t e tagged slots number-is d g
 
   module _ (done : number ≡ 0) where
@@ -79,7 +79,7 @@ module _ (t : State) (sized : Sized t) (w : wellFormed t ≡ true) (e : Event) (
 
     pub send-turn : {r : ℕ} → r ≡ rowOf (e .line) → {y : Cell} {m : Message} {tag : ℕ} {a : Answer} → y ≡ sentCell (cut e) (getD (t .cells) k zeroCell)
         → m ≡ sentMessage (cut e) (getD (t .serials) r (record { 0 = 0 }) .0) (getD (t .cells) k zeroCell) → tag ≡ tagOf Tokens r (getD (t .serials) r (record { 0 = 0 }) .0) → a ≡ answer 0 0 i
-        → Turned t e (record { sizes = t .sizes; serials = t .serials; cells = set (t .cells) k y; pool = set (t .pool) i m }) a (set tags i tag)
+        → StepTaken t e (record { sizes = t .sizes; serials = t .serials; cells = set (t .cells) k y; pool = set (t .pool) i m }) a (set tags i tag)
     unfolding sendOf effect withCell withSlot serialAt
     send-turn {r} pr {y} {m} hy hs hg ha =
         let n = sent .named in

@@ -25,7 +25,7 @@ use Rattle.rules.proofs.Keeps.Well.{well-sizes, well-address, well-fits}
 use Rattle.running.proofs.Facts.Numbers.{slot-number}
 use Rattle.running.proofs.Facts.Places.{row-is, place-is}
 use Rattle.running.proofs.Facts.Searches.{slot-refusal, slot-near, slot-busy}
-use Rattle.running.proofs.Facts.Turns.{Turned, turn-of, tag-set, refused-turn}
+use Rattle.running.proofs.Facts.Turns.{StepTaken, turn-of, tag-set, refused-turn}
 
 -- a reply has the tag of its kind
 reply-tag : (k : MessageKind) (q : ℕ) (m : Message) → tagOf k (m .line) q ≡ slotTag (replyOf k q m)
@@ -58,7 +58,7 @@ module _ (t : State) (sized : Sized t) (w : wellFormed t ≡ true) (e : Event) (
   number-is : refusal t e ≡ number
   number-is = slot-number t e w slot ∙ sym (hm ∙ slot-refusal t tagged e)
 
-  pub slot-refused : number ≢ 0 → {a : Answer} → a ≡ answer number 0 64 → Turned t e t a tags
+  pub slot-refused : number ≢ 0 → {a : Answer} → a ≡ answer number 0 64 → StepTaken t e t a tags
   slot-refused d g = refused-turn t e tagged slots number-is d g
 
   module _ (accepted : number ≡ 0) where
@@ -100,7 +100,7 @@ module _ (t : State) (sized : Sized t) (w : wellFormed t ≡ true) (e : Event) (
         → c ≡ arriveOf (z .total .0) (getD (t .serials) r (record { 0 = 0 }) .0) e (e .kind) (getD (t .cells) k zeroCell) (getD (t .pool) (e .amount) freeMessage)
         → p ≡ replyOf (c .reply) (getD (t .serials) r (record { 0 = 0 }) .0) (getD (t .pool) (e .amount) freeMessage)
         → tag ≡ tagOf (c .reply) (getD (t .pool) (e .amount) freeMessage .line) (getD (t .serials) r (record { 0 = 0 }) .0)
-        → Turned t e (record { sizes = t .sizes; serials = t .serials; cells = set (t .cells) k (c .cell); pool = set (t .pool) (e .amount) p }) (c .answer) (set tags (e .amount) tag)
+        → StepTaken t e (record { sizes = t .sizes; serials = t .serials; cells = set (t .cells) k (c .cell); pool = set (t .pool) (e .amount) p }) (c .answer) (set tags (e .amount) tag)
     unfolding slotAt serialAt withSlot withCell cellAt
     slot-turn {k} {r} pk pr {z} hz {c} {p} {tag} hc hp hg =
         let ad = well-address t w (e .amount) near busy in

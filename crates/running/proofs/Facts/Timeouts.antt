@@ -26,7 +26,7 @@ use Rattle.rules.proofs.Facts.Loops.{fill-more}
 use Rattle.running.proofs.Facts.Numbers.{timeout-number, is-timeout}
 use Rattle.running.proofs.Facts.Places.{row-is}
 use Rattle.running.proofs.Facts.Searches.{fill-same, copyless-same, after-same, absent-is}
-use Rattle.running.proofs.Facts.Turns.{Turned, turn-of, refused-turn}
+use Rattle.running.proofs.Facts.Turns.{StepTaken, turn-of, refused-turn}
 use Rattle.running.proofs.Facts.Cells.{cause-is, within}
 
 abbrev serialOf : ℕ → Serial
@@ -78,7 +78,7 @@ module _ (t : State) (w : wellFormed t ≡ true) (e : Event) (tags : List ℕ) (
     unfolding renewalRefusal from table given
     renewal-number = number-is ∙ sym (hm ∙ rw (free-is, copyless-same {f = nth nine} {g = cellAt t (e .line)} nine-is))
 
-    pub renewal-refused : number ≢ 0 → {a : Answer} → a ≡ answer number 0 64 → Turned t e t a tags
+    pub renewal-refused : number ≢ 0 → {a : Answer} → a ≡ answer number 0 64 → StepTaken t e t a tags
     renewal-refused d g = refused-turn t e tagged slots renewal-number d g
 
     cells-are : (total : ℕ) → fillTo 9 (l * 9) (recreatedLine total (e .node) (nth nine)) (t .cells)
@@ -90,7 +90,7 @@ module _ (t : State) (w : wellFormed t ≡ true) (e : Event) (tags : List ℕ) (
 
     pub renewal-turn : number ≡ 0 → {word : ℕ} {to : ℕ} {u : State} {a : Answer} → word ≡ wordFor (nth nine) → to ≡ 9
         → u ≡ withCells t (fillTo to (l * 9) (λ j. afterRecreation (z .total .0) word (eqb j (e .node)) (nth nine j)) (t .cells)) → a ≡ answer number 0 64
-        → Turned t e (record { sizes = u .sizes; serials = set (u .serials) l q; cells = u .cells; pool = u .pool }) a tags
+        → StepTaken t e (record { sizes = u .sizes; serials = set (u .serials) l q; cells = u .cells; pool = u .pool }) a tags
     unfolding recreateOf withSerial
     renewal-turn g hword all hu ha =
         turn-of t e (step-effect t e (renewal-number ∙ g) ∙ timeout-effect t e (e .kind) (inside .0) timed .1)

@@ -28,18 +28,18 @@ tag-set {tags} {pool} i {tag} m h lt lp l e =
     }
 
 -- what a turn leaves is what the step of the event leaves
-pub record Turned (t : State) (e : Event) (u : State) (a : Answer) (tags : List ℕ) : Type 0 where
+pub record StepTaken (t : State) (e : Event) (u : State) (a : Answer) (tags : List ℕ) : Type 0 where
   pub state : u ≡ stepOf t e .state
   pub answer : a ≡ stepOf t e .answer
   pub tagged : Tagged tags (u .pool)
   pub slots : length tags ≡ 64
 
 -- from the whole step
-pub turn-of : (t : State) (e : Event) {r : Stepped} {u : State} {a : Answer} {tags : List ℕ} → stepOf t e ≡ r → u ≡ r .state → a ≡ r .answer → Tagged tags (u .pool) → length tags ≡ 64 → Turned t e u a tags
+pub turn-of : (t : State) (e : Event) {r : Stepped} {u : State} {a : Answer} {tags : List ℕ} → stepOf t e ≡ r → u ≡ r .state → a ≡ r .answer → Tagged tags (u .pool) → length tags ≡ 64 → StepTaken t e u a tags
 turn-of t e h p q m l =
     record { state = p ∙ ap (λ (r : Stepped). r .state) (sym h); answer = q ∙ ap (λ (r : Stepped). r .answer) (sym h); tagged = m; slots = l }
 
 -- a refusal leaves all as it was
 pub refused-turn : (t : State) (e : Event) {tags : List ℕ} → Tagged tags (t .pool) → length tags ≡ 64 → {n : ℕ} {a : Answer} → refusal t e ≡ n → n ≢ 0 → a ≡ answer n 0 64
-    → Turned t e t a tags
+    → StepTaken t e t a tags
 refused-turn t e tagged slots {n} h d g = turn-of t e (step-refused t e (rw h (ne-eqb n 0 d))) refl (g ∙ rw h) tagged slots
