@@ -1,7 +1,8 @@
 /* Writes a trace for `tokens`, the same for the same arguments.
  * generate LINES SEED CACHES CACHE-LINES TOKENS MIX: LINES lines in all, the start line among them.
- * It follows the model's state: an event is drawn again until the model accepts it, so refusals come only where the
- * mix asks for them or where nothing of the kind drawn is possible.
+ * It follows the model's state: an event is drawn again until the model accepts it or refuses it with 23 (a cache times
+ * out while another node has the only backup: the line waits for its holder). Other refusals come only where the mix
+ * asks for them or where nothing of the kind drawn is possible.
  * MIX batch: sends, deliveries and writes. MIX mixed: all ten kinds, some refused events, a few unreadable lines. */
 #include <stdio.h>
 #include <stdlib.h>
@@ -74,13 +75,14 @@ static void draw_event(uint32_t kind, uint32_t *e)
         e[WORD] = draw(3) ? draw(1000) : draw(UINT32_MAX);
 }
 
-/* Draws until an event is accepted and puts it into the state; false if fifty in a row are refused. */
-static bool accepted_event(uint32_t kind, uint32_t *e)
+/* Draws until an event is accepted or refused with 23, and steps the state by it; false after fifty that are neither. */
+static bool drawn_event(uint32_t kind, uint32_t *e)
 {
     for (int i = 0; i < 50; i++) {
         draw_event(kind, e);
         struct state trial = state;
-        if (step(&trial, e).number == DONE) {
+        uint32_t number = step(&trial, e).number;
+        if (number == DONE || number == BACKUP_ELSEWHERE) {
             state = trial;
             return true;
         }
@@ -150,7 +152,7 @@ int main(int argc, char **argv)
         } else {
             /* with every slot free nothing can be delivered, with many in use deliveries come first */
             uint32_t kind = __builtin_popcountll(~state.unused) > 40 ? DELIVER : draw_kind(mixed);
-            if (!accepted_event(kind, e) && !accepted_event(DELIVER, e) && !accepted_event(SEND, e))
+            if (!drawn_event(kind, e) && !drawn_event(DELIVER, e) && !drawn_event(SEND, e))
                 step(&state, e);
         }
         print_event(e);

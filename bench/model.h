@@ -1,4 +1,4 @@
-/* The model of document 01 in C: its state, a fresh start, and one step in place. */
+/* The model of document 01, with T-01 of document 02, in C: its state, a fresh start, and one step in place. */
 #ifndef MODEL_H
 #define MODEL_H
 
@@ -17,8 +17,8 @@ enum { WANT_NONE, WANTS_READ, WANTS_WRITE };
 enum {
     DONE = 0, NOT_WELL_FORMED = 1, BAD_KIND = 2, BAD_LINE = 3, BAD_NODE = 4, MEMORY_NAMED = 5, BAD_SLOT = 6,
     SAME_NODE = 7, BAD_AMOUNT = 8, NOT_OWNER = 9, BLOCKED = 10, NOT_VALID = 11, POOL_FULL = 12, NOT_ABLE = 13,
-    WANTED_ALREADY = 14, ABLE_ALREADY = 15, NO_CAUSE = 16, NEXT_SERIAL_IN_POOL = 17, NO_COPY = 18, BAD_SIZE = 19,
-    NOT_READABLE = 22
+    WANTED_ALREADY = 14, ABLE_ALREADY = 15, NO_CAUSE = 16, NEXT_SERIAL_IN_POOL = 17, NOTHING_LEFT = 18, BAD_SIZE = 19,
+    NOT_READABLE = 22, BACKUP_ELSEWHERE = 23
 };
 
 struct cell {
@@ -205,18 +205,18 @@ static inline struct answer recreate(struct state *s, uint32_t line, uint32_t no
         if (m->line == line && m->serial == next)
             return refused(NEXT_SERIAL_IN_POOL);
     }
-    const struct cell *owner = NULL, *valid = NULL, *backup = NULL;
+    const struct cell *owner = NULL, *valid = NULL;
+    bool backup = false;
     for (uint32_t n = s->caches + 1; n-- > 0;) { /* downwards, so that the lowest-numbered stays */
         if (cells[n].owner)
             owner = &cells[n];
         if (cells[n].valid)
             valid = &cells[n];
-        if (cells[n].backup)
-            backup = &cells[n];
+        backup |= cells[n].backup;
     }
-    if (!owner && !valid && !backup)
-        return refused(NO_COPY);
-    uint32_t word = owner ? owner->word : valid ? valid->word : backup->saved;
+    if (!owner && !valid && !cells[node].backup) /* only the holder may use a backup */
+        return refused(backup ? BACKUP_ELSEWHERE : NOTHING_LEFT);
+    uint32_t word = owner ? owner->word : valid ? valid->word : cells[node].saved;
     for (uint32_t n = 0; n <= s->caches; n++)
         cells[n] = (struct cell){.want = cells[n].want};
     cells[node].tokens = (uint8_t)s->tokens;

@@ -45,18 +45,36 @@ fn show(a: Answer) {
     io::write_all(1, b"\n");
 }
 
-// Two caches and one line of three tokens, with these two cells for cache 0 and the memory.
-fn with_two(first: Cell, memory: Cell) -> State {
+// Two caches and one line of three tokens, with these three cells.
+fn with_three(first: Cell, second: Cell, memory: Cell) -> State {
     let fresh = model::start(2, 1, 3);
     let mut s = fresh.state;
     s.cells[0] = first;
+    s.cells[1] = second;
     s.cells[2] = memory;
     s
+}
+
+// The same with nothing at cache 1.
+fn with_two(first: Cell, memory: Cell) -> State {
+    with_three(first, cell(0, false, false, Want::Nothing, 0), memory)
 }
 
 fn said(s: State, e: Event) {
     let r = model::step(s, e);
     show(r.answer);
+}
+
+// A step, and then a read at the same node.
+fn then_read(s: State, e: Event) {
+    let r = model::step(s, e);
+    show(r.answer);
+    said(r.state, event(0, e.node));
+}
+
+// A cache that wants to read and has only a backup, of this word.
+fn backed(word: u32) -> Cell {
+    cell(0, false, true, Want::Read, word)
 }
 
 // A batch of reads, and what it leaves: its number and count, and the first three answer words.
@@ -109,17 +127,29 @@ fn steps() {
         with_two(cell(3, true, false, Want::Nothing, 7), waiting),
         event(0, 0),
     );
-    // cache 0 wants to read and the line has a backup at the memory: recreated, and the read gives its word
-    let kept = with_two(waiting, cell(0, false, true, Want::Nothing, 9));
-    said(kept, event(7, 0));
-    let after = model::step(kept, event(7, 0));
-    said(after.state, event(0, 0));
+}
+
+// Lines with no owner and no valid cell.
+fn backups() {
+    let none = cell(0, false, false, Want::Nothing, 0);
+    let waiting = cell(0, false, false, Want::Read, 0);
+    let memory = cell(0, false, true, Want::Nothing, 9);
+    // cache 0 wants to read and only the memory has a backup: 23; the memory's own timeout is done
+    said(with_two(waiting, memory), event(7, 0));
+    said(with_two(waiting, memory), event(8, 2));
+    // two backups, and cache 0 has neither: 23
+    said(with_three(waiting, backed(8), memory), event(7, 0));
+    // three backups: the node that is named uses its own, and its read gives that word
+    then_read(with_three(backed(7), backed(8), memory), event(7, 0));
+    then_read(with_three(backed(7), backed(8), memory), event(7, 1));
+    then_read(with_three(backed(7), backed(8), memory), event(8, 1));
     // no owner, no valid cell and no backup on the line: 18
     said(with_two(waiting, none), event(7, 0));
 }
 
 fn main() {
     steps();
+    backups();
     let none = cell(0, false, false, Want::Nothing, 0);
     let held = with_two(cell(3, true, false, Want::Nothing, 7), none);
     let mut three = [77u32; 3];

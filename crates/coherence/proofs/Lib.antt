@@ -14,4 +14,5 @@ pub mod Late
 pub mod Lost
 pub mod Losses
 pub mod Uses
+pub mod Backups
 pub mod Coherence

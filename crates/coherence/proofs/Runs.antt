@@ -11,7 +11,7 @@ use Rattle.coherence.specs.Histories.{after, answers, wrote, lastWriteAf
 use Rattle.rules.specs.States.{cellAt}
 use Rattle.rules.specs.WellFormed.{sizesFine}
 use Rattle.rules.specs.Fresh.{sizes, fresh, startOf}
-use Rattle.rules.specs.Refusals.{copyless}
+use Rattle.rules.specs.Refusals.{nothingLeft}
 use Rattle.rules.specs.Effects.{answer, stepOf}
 use Rattle.rules.specs.Runs.{runOf, answersOf}
 use Rattle.rules.proofs.Laws.Bools.{split}
@@ -22,7 +22,7 @@ use Rattle.rules.proofs.Keeps.Shapes.{step-keeps-sizes, step-keeps-sized}
 use Rattle.rules.proofs.Keeps.Steps.{step-keeps-well}
 use Rattle.rules.proofs.Keeps.Starts.{sole, fresh-sized, fresh-well}
 use Rattle.coherence.proofs.Invariant.{Held, kept-sole}
-use Rattle.coherence.proofs.Recreations.{has-copy}
+use Rattle.coherence.proofs.Recreations.{something-left}
 use Rattle.coherence.proofs.Copies.{not-18}
 use Rattle.coherence.proofs.Steps.{step-held}
 
@@ -49,17 +49,17 @@ unfolding runOf answersOf lastWriteAfter
 run-good [] g = g
 run-good (e ∷ es) g = run-good es (step-good g e)
 
--- each line has a copy, and no event of a run is refused with 18
-copies : {c l n : ℕ} {s : State} {W : ℕ → ℕ} → Good c l n s W → (line : ℕ) → line < s .sizes .lines
-    → copyless (cellAt s line) ≡ false
+-- each line has an owner, a valid cell or a backup, and no event of a run is refused with 18
+lines-left : {c l n : ℕ} {s : State} {W : ℕ → ℕ} → Good c l n s W → (line : ℕ) → line < s .sizes .lines
+    → nothingLeft (cellAt s line) ≡ false
 unfolding Held
-copies {s = s} g line h = has-copy s line (g .held line h .tally)
+lines-left {s = s} g line h = something-left s line (g .held line h .tally)
 
 run-not-18 : {c l n : ℕ} (es : List Event) {s : State} {W : ℕ → ℕ} → Good c l n s W → (i : ℕ)
     → getD (answersOf s es) i (answer 0 0 64) .number ≢ 18
 unfolding answersOf
 run-not-18 [] g i = omega arith
-run-not-18 (e ∷ es) {s} g zero = λ h. not-18 s e (copies g (e .line)) (sym (step-number s e) ∙ h)
+run-not-18 (e ∷ es) {s} g zero = λ h. not-18 s e (lines-left g (e .line)) (sym (step-number s e) ∙ h)
 run-not-18 (e ∷ es) g (suc i) = run-not-18 es (step-good g e) i
 
 -- a fresh state is kept with the word 0
@@ -91,8 +91,8 @@ module _ (c l n : ℕ) (begun : startOf c l n .answer .number ≡ 0) (es : List 
   unfolding lastWrite
   good = run-good es (start-good c l n begun)
 
-  pub has-copies : (line : ℕ) → line < l → copyless (cellAt (after c l n es) line) ≡ false
-  has-copies line h = copies good line (rw (good .same) h)
+  pub line-left : (line : ℕ) → line < l → nothingLeft (cellAt (after c l n es) line) ≡ false
+  line-left line h = lines-left good line (rw (good .same) h)
 
   pub never-18 : (i : ℕ) → getD (answers c l n es) i (answer 0 0 64) .number ≢ 18
   never-18 i = run-not-18 es (start-good c l n begun) i

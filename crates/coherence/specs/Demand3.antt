@@ -10,7 +10,7 @@ use Rattle.coherence.specs.Histories.{answers, stateAt, answerAt, lastWr
 use Rattle.rules.specs.States.{cellAt, slotAt, serialAt, bears}
 use Rattle.rules.specs.WellFormed.{wellFormed}
 use Rattle.rules.specs.Cells.{ableToWrite}
-use Rattle.rules.specs.Refusals.{reading, copyless}
+use Rattle.rules.specs.Refusals.{reading, nothingLeft}
 
 -- no node up to c but this one holds a token of the line
 abbrev pub OthersEmpty : ℕ → State → ℕ → ℕ → Type 0
@@ -47,7 +47,7 @@ module _ (c l n : ℕ) (es : List Event) where
 
   -- in every state of the run each line has an owner, a valid cell or a backup, and number 18 is never given
   abbrev pub CopyRemains : Type 0
-  CopyRemains = ((i line : ℕ) → line < l → copyless (cellAt (stateAt c l n es i) line) ≡ false) × Never 18
+  CopyRemains = ((i line : ℕ) → line < l → nothingLeft (cellAt (stateAt c l n es i) line) ≡ false) × Never 18
 
   -- the four together
   abbrev pub Demand3 : Type 0

@@ -2,10 +2,10 @@
 use Prim.Native.Nat.{ℕ}
 use mathlib.Core.Path.{_≡_}
 use mathlib.Core.Logic.{_≢_}
-use mathlib.Core.Bool.{_||_, cond as pick}
+use mathlib.Core.Bool.{true, _||_, cond as pick}
 use mathlib.Core.List.{List, [], _∷_}
 use Rattle.coherence.specs.Types.{State, Event}
-use Rattle.rules.specs.Refusals.{reading, writing, sending, slotted, wantingRead, wantingWrite, timeout}
+use Rattle.rules.specs.Refusals.{reading, writing, sending, slotted, wantingRead, wantingWrite, lostToken, timeout}
 use Rattle.rules.specs.Effects.{stepOf}
 
 -- a refused event leaves the state as it came, and is answered with word 0 and slot 64
@@ -14,6 +14,10 @@ RefusedLeavesState =
     (s : State) (e : Event)
     → stepOf s e .answer .number ≢ 0
     → (stepOf s e .state ≡ s) × (stepOf s e .answer .word ≡ 0) × (stepOf s e .answer .slot ≡ 64)
+
+-- number 23 is the answer to a lost token timeout alone
+abbrev pub Number23LostToken : Type 0
+Number23LostToken = (s : State) (e : Event) → stepOf s e .answer .number ≡ 23 → lostToken (e .kind) ≡ true
 
 -- the words of an event that kind k uses (document 01, the table of kinds); a kind above 9 uses none
 unfoldable pub usedBy : ℕ → Event → List ℕ

@@ -1,12 +1,11 @@
 // The recreation of a line's tokens, over the line's nine cells.
 ghost use mathlib.Core.Path.{_≡_};
 ghost use Prim.Native.Nat.{_≤_};
-ghost use Rattle.rules.specs.Refusals.{next, lowest as lowestOf, copyless as copylessOf};
+ghost use Rattle.rules.specs.Refusals.{next, lowest as lowestOf, copyless as copylessOf, backupless as backuplessOf};
 ghost use Rattle.rules.specs.Effects.{wordFor, afterRecreation};
-ghost use Rattle.renewals.specs.Nines.{nth, marked, renewalRefusal};
+ghost use Rattle.renewals.specs.Nines.{nth, marked, copyRefusal, renewalRefusal};
 use rules::cells::Cell;
 use rules::choices::either;
-use rules::events::Event;
 use rules::numbers::Count;
 use rules::numbers::Serial;
 
@@ -49,18 +48,26 @@ fn lowest(nine: [Cell; 9], mark: Mark) -> usize
     9
 }
 
-// No owner, no valid cell and no backup.
+// No owner and no valid cell.
 fn copyless(nine: [Cell; 9]) -> bool
     ensures { λ r. ⌜ r ≡ copylessOf (nth nine) ⌝ }
 {
-    (lowest(nine, Mark::Owner) == 9)
-        & (lowest(nine, Mark::Valid) == 9)
-        & (lowest(nine, Mark::Backup) == 9)
+    if lowest(nine, Mark::Owner) < 9 {
+        return false;
+    }
+    lowest(nine, Mark::Valid) == 9
 }
 
-// The word that a recreation takes.
-pub fn word_for(nine: [Cell; 9]) -> u32
-    ensures { λ r. ⌜ r ≡ wordFor (nth nine) ⌝ }
+// No backup at any node.
+fn backupless(nine: [Cell; 9]) -> bool
+    ensures { λ r. ⌜ r ≡ backuplessOf (nth nine) ⌝ }
+{
+    lowest(nine, Mark::Backup) == 9
+}
+
+// The word that a recreation takes for the node whose cell is x; of the backups only its own.
+pub fn word_for(x: Cell, nine: [Cell; 9]) -> u32
+    ensures { λ r. ⌜ r ≡ wordFor x (nth nine) ⌝ }
 {
     let owner = lowest(nine, Mark::Owner);
     if owner < 9 {
@@ -70,11 +77,7 @@ pub fn word_for(nine: [Cell; 9]) -> u32
     if valid < 9 {
         return nine[valid].word;
     }
-    let backup = lowest(nine, Mark::Backup);
-    if backup < 9 {
-        return nine[backup].saved;
-    }
-    0
+    either(x.backup, x.saved, 0)
 }
 
 // A cell after the recreation: the chosen one has all n tokens and the word.
@@ -89,9 +92,24 @@ pub fn renewed(chosen: bool, n: Count, word: u32, x: Cell) -> Cell
     }
 }
 
-// 17 where a message of the line bears the next serial, 18 where the line has no copy of its data.
-pub fn renewal_refusal(e: Event, borne: bool, nine: [Cell; 9]) -> u32
-    ensures { λ r. ⌜ r ≡ renewalRefusal e borne nine ⌝ }
+// Where the line has no owner and no valid cell: 18 if no node has a backup, 23 if one has, but not the node whose cell is x;
+// else 0.
+fn copy_refusal(x: Cell, nine: [Cell; 9]) -> u32
+    ensures { λ r. ⌜ r ≡ copyRefusal x nine ⌝ }
 {
-    either(borne, 17, either(copyless(nine), 18, 0))
+    if copyless(nine) {
+        if backupless(nine) {
+            return 18;
+        }
+        return either(x.backup, 0, 23);
+    }
+    0
+}
+
+// 17 where a message of the line bears the next serial; else 18, 23 or 0.
+pub fn renewal_refusal(x: Cell, borne: bool, nine: [Cell; 9]) -> u32
+    ensures { λ r. ⌜ r ≡ renewalRefusal x borne nine ⌝ }
+{
+    let lack = copy_refusal(x, nine);
+    either(borne, 17, lack)
 }

@@ -8,7 +8,7 @@ use Rattle.rules.specs.States.{cellAt, slotAt, serialAt, withCell, withS
 use Rattle.rules.specs.Cells.{ableToRead, ableToWrite, received, wantAfter}
 use Rattle.rules.specs.WellFormed.{sizesFine, serialFine, cellZero, cellRules, cellFine, messageZero, addressFine, tokensFine, ackFine, messageFine, counted, inCells, inMessages, tokensOf, wellFormed}
 use Rattle.rules.specs.Fresh.{freshCells, fresh, startOf}
-use Rattle.rules.specs.Refusals.{lowestFree, next, unborne, lowest, copyless, table, given, refusal}
+use Rattle.rules.specs.Refusals.{lowestFree, next, unborne, lowest, copyless, backupless, table, given, refusal}
 use Rattle.rules.specs.Effects.{answer, readOf, writeOf, sentCell, sendOf, arrive, replyOf, deliverOf, wantOf, wordFor, afterRecreation, recreateOf, effect, stepOf}
 use Rattle.rules.specs.Runs.{answersOf}
 
@@ -45,5 +45,5 @@ twelve =
 -- the start of 2 caches, 1 line and 3 tokens answers 0 0 64, and the events that follow answer as listed
 pub thirteen-lines : (startOf 2 1 3 .answer ≡ answer 0 0 64)
     × (answersOf (startOf 2 1 3 .state) (map (λ r. r .input) twelve) ≡ map (λ r. r .output) twelve)
-unfolding every allTo sumTo firstTo fillTo cellAt slotAt serialAt withCell withSlot withSerial bears ableToRead ableToWrite received wantAfter sizesFine serialFine cellZero cellRules cellFine messageZero addressFine tokensFine ackFine messageFine counted inCells inMessages tokensOf wellFormed freshCells fresh startOf lowestFree next unborne lowest copyless table given refusal readOf writeOf sentCell sendOf arrive replyOf deliverOf wantOf wordFor afterRecreation recreateOf effect stepOf answersOf
+unfolding every allTo sumTo firstTo fillTo cellAt slotAt serialAt withCell withSlot withSerial bears ableToRead ableToWrite received wantAfter sizesFine serialFine cellZero cellRules cellFine messageZero addressFine tokensFine ackFine messageFine counted inCells inMessages tokensOf wellFormed freshCells fresh startOf lowestFree next unborne lowest copyless backupless table given refusal readOf writeOf sentCell sendOf arrive replyOf deliverOf wantOf wordFor afterRecreation recreateOf effect stepOf answersOf
 thirteen-lines = (refl, refl)

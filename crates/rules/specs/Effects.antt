@@ -1,4 +1,4 @@
--- What each event does when no number refuses it (document 01, "What each event does"). Assumes nothing.
+-- What each event does when no number refuses it (document 01, "What each event does", with T-01 of document 02). Assumes nothing.
 use Prim.Native.Nat.{ℕ, _*_}
 use mathlib.Core.Bool.{Bool, false, cond as pick}
 use lib.Dec.{eqb, ltb}
@@ -116,13 +116,12 @@ deliverOf s e =
 unfoldable pub wantOf : State → Event → Want → Stepped
 wantOf s e w = answered (withCell s (e .line) (e .node) (withWant w (cellOf s e))) 0 0 64
 
--- the word of a recreation, from a line's cells: of the lowest-numbered owner; if none, the lowest-numbered valid cell; if none, the lowest-numbered backup
-unfoldable pub wordFor : (ℕ → Cell) → ℕ
-wordFor cells =
+-- the word of a recreation, from the cell x of the node named and the line's cells: of the lowest-numbered owner; if none, the lowest-numbered valid cell; if none, the backup of the node named (document 02, T-01), or 0 if it has none, which no step uses (18 or 23 refuses)
+unfoldable pub wordFor : Cell → (ℕ → Cell) → ℕ
+wordFor x cells =
     let o = lowest cells (λ c. c .owner) in
     let v = lowest cells (λ c. c .valid) in
-    let b = lowest cells (λ c. c .backup) in
-    pick (ltb o 9) (cells o .word) (pick (ltb v 9) (cells v .word) (pick (ltb b 9) (cells b .saved) 0))
+    pick (ltb o 9) (cells o .word) (pick (ltb v 9) (cells v .word) (pick (x .backup) (x .saved) 0))
 
 -- a cell of the line after a recreation: it loses tokens, marks and words and keeps its want; the chosen node's then gets n tokens, owner, valid and the word w, and its want ends if it is able to do what it wants
 unfoldable pub afterRecreation : ℕ → ℕ → Bool → Cell → Cell
@@ -130,7 +129,7 @@ afterRecreation n w chosen c = pick chosen (settled n (recreated n w c)) (cleare
 
 -- the line's cells after a recreation for the node, node by node
 abbrev pub recreatedLine : ℕ → ℕ → (ℕ → Cell) → ℕ → Cell
-recreatedLine n node cells j = afterRecreation n (wordFor cells) (eqb j node) (cells j)
+recreatedLine n node cells j = afterRecreation n (wordFor (cells node) cells) (eqb j node) (cells j)
 
 -- a timeout recreates the line's tokens for the node and gives the line its next serial; messages stay in the pool
 unfoldable pub recreateOf : State → Event → Stepped

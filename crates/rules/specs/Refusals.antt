@@ -1,4 +1,4 @@
--- The numbers 1 to 18 that a step gives back (document 01, "Numbers a call gives back"), as one list. Assumes nothing.
+-- The numbers that a step gives back, as one list: 1 to 18 (document 01, "Numbers a call gives back") and 23 (document 02, T-01). Assumes nothing.
 use Prim.Native.Nat.{ℕ, suc}
 use mathlib.Core.Bool.{Bool, not, _&&_, _||_, cond as pick}
 use mathlib.Core.List.{List, [], _∷_}
@@ -85,10 +85,13 @@ unborne s line q = allTo 64 (λ i. not (bears line q (slotAt s i)))
 unfoldable pub lowest : (ℕ → Cell) → (Cell → Bool) → ℕ
 lowest cells mark = firstTo 9 (λ n. mark (cells n))
 
--- the line has no owner, no valid cell and no backup
+-- the line has no copy: no owner and no valid cell
 unfoldable pub copyless : (ℕ → Cell) → Bool
-copyless cells =
-    eqb (lowest cells (λ c. c .owner)) 9 && eqb (lowest cells (λ c. c .valid)) 9 && eqb (lowest cells (λ c. c .backup)) 9
+copyless cells = eqb (lowest cells (λ c. c .owner)) 9 && eqb (lowest cells (λ c. c .valid)) 9
+
+-- no node has a backup of the line
+unfoldable pub backupless : (ℕ → Cell) → Bool
+backupless cells = eqb (lowest cells (λ c. c .backup)) 9
 
 -- what the numbers look at beside the event: whether the state is well formed; its sizes; the cell that the event names; whether the
 -- slot that it names is free; the lowest free slot, or 64; whether a message of its line bears the next serial; its line's cells
@@ -136,6 +139,14 @@ wrongOwner e x = eqb (e .owner) 1 && not (x .owner) || eqb (e .owner) 1 && not (
 abbrev pub causeless : ℕ → Cell → Bool
 causeless k x = lostToken k && isNothing (x .want) || lostData k && not (x .backup) || lostDeletionAck k && not (x .blocked)
 
+-- 18: no copy, and no backup anywhere
+abbrev pub nothingLeft : (ℕ → Cell) → Bool
+nothingLeft cells = copyless cells && backupless cells
+
+-- 23: no copy, and only other nodes have a backup; x is the cell of the node named
+abbrev pub backupElsewhere : Cell → (ℕ → Cell) → Bool
+backupElsewhere x cells = copyless cells && not (backupless cells) && not (x .backup)
+
 -- the table, in its order, for an event of kind k; the kind is given apart, and the word `e .kind` is not looked at
 unfoldable pub table : Seen → Event → ℕ → List Row
 table v e k =
@@ -156,7 +167,8 @@ table v e k =
     ∷ row 15 (wantingRead k && ableToRead (v .cell) || wantingWrite k && ableToWrite (v .sizes .total .0) (v .cell))
     ∷ row 16 (causeless k (v .cell))
     ∷ row 17 (timeout k && v .nextBorne)
-    ∷ row 18 (timeout k && copyless (v .cells))
+    ∷ row 18 (timeout k && nothingLeft (v .cells))
+    ∷ row 23 (timeout k && backupElsewhere (v .cell) (v .cells))
     ∷ []
 
 -- the first number that applies, or 0 if none does; the table's numbers ascend, so of it the smallest (`given-smallest` in proofs/Laws/Rows)

@@ -141,12 +141,12 @@ pub(crate) fn turns(s: State, n: usize, events: &[u32], answers: &mut [u32]) -> 
         let next = next_serial(q);
         // every message has the tag of a token message, so acknowledgments are found too
         let free = absent(&tags, tag(MessageKind::Tokens, l as u8, next));
-        let late = renewal_refusal(e, !free, nine);
+        let late = renewal_refusal(x, !free, nine);
         put(answers, out, late, 0, 64);
         if late != 0 {
             continue;
         }
-        let word = word_for(nine);
+        let word = word_for(x, nine);
         let chosen = e.node as usize;
         let mut to: usize = 0;
         while to < 9 {

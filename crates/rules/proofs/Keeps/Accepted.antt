@@ -1,18 +1,18 @@
 -- What is known of an event that no number refuses. Assumes nothing.
 use Prim.Native.Nat.{ℕ, zero, suc, _≤_, _<_}
-use mathlib.Core.Path.{_≡_, refl}
+use mathlib.Core.Path.{_≡_, refl, subst}
 use mathlib.Core.Logic.{_≢_}
 use mathlib.Core.Bool.{true, false, or-true}
 use native.Mathlib.Omega.{arith}
-use borrow.Author.Tests.{ltb-false, leb-false, eqb-false, eq-eqb}
+use borrow.Author.Tests.{ltb-false, leb-false, eqb-true, eqb-false, eq-eqb}
 use lib.Dec.{eqb, ltb}
 use Rattle.rules.specs.Types.{Cell, State, Event}
 use Rattle.rules.specs.States.{cellAt, serialAt}
-use Rattle.rules.specs.Refusals.{timeout, slotted, forCaches, wrongAmount, wrongOwner, seen, table, tableOf, refusal, cellOf, freeAt, lowestFree, copyless, unborne, next}
+use Rattle.rules.specs.Refusals.{timeout, slotted, forCaches, wrongAmount, wrongOwner, seen, table, tableOf, given, refusal, cellOf, freeAt, lowestFree, copyless, backupless, unborne, next}
 use Rattle.rules.specs.Cells.{ableToRead, ableToWrite}
 use Rattle.rules.proofs.Laws.Bools.{clash, split, or-left}
 use Rattle.rules.proofs.Laws.Sums.{first-hit, first-le}
-use Rattle.rules.proofs.Laws.Rows.{applies, Clear, clear}
+use Rattle.rules.proofs.Laws.Rows.{applies, Clear, clear, given-first}
 
 -- an event that is accepted meets no row
 pub accepted : (s : State) (e : Event) → refusal s e ≡ 0 → Clear (tableOf s e (e .kind))
@@ -47,11 +47,11 @@ pub record Cached (s : State) (e : Event) : Type 0 where
   pub named : Named s e
   pub cache : eqb (e .node) (s .sizes .caches) ≡ false
 
--- the line's tokens can be recreated
+-- the line's tokens can be recreated: where it has no copy, the node has a backup
 pub record Timeout (s : State) (e : Event) : Type 0 where
   pub named : Named s e
   pub unborne : unborne s (e .line) (next (serialAt s (e .line))) ≡ true
-  pub copy : copyless (cellAt s (e .line)) ≡ false
+  pub copy : copyless (cellAt s (e .line)) ≡ true → cellOf s e .backup ≡ true
 
 -- the tokens can be sent
 pub record Sends (s : State) (e : Event) : Type 0 where
@@ -85,27 +85,52 @@ module _ (e : Event) (x : Cell) where
   owner-full : wrongOwner e x ≡ false → eqb (e .owner) 1 ≡ true → eqb (e .full) 1 ≡ true
   owner-full h t = split (eqb (e .full) 1) (λ o. o) (λ f. clash (simp (t, f, or-true)) h)
 
+-- a timeout names no slot
+unslotted : (k : ℕ) → timeout k ≡ true → slotted k ≡ false
+unslotted k h =
+    let other : (n : ℕ) → timeout n ≡ false → eqb k n ≡ false =
+    λ n f. split (eqb k n) (λ t. clash (subst (λ j. timeout j ≡ true) (eqb-true k n t) h) f) (λ d. d) in
+    rw (other 3 refl, other 4 refl)
+
 module _ (s : State) (e : Event) where
-  pub names : (k : ℕ) → slotted k ≡ false → Clear (tableOf s e k) → Named s e
-  unfolding Clear applies table
-  names k h c =
+  -- the line and the node, by the rows 3 and 4
+  names-by : (k : ℕ) → slotted k ≡ false → applies 3 (tableOf s e k) ≡ false → applies 4 (tableOf s e k) ≡ false → Named s e
+  unfolding applies table
+  names-by k h three four =
       record {
-        line = leb-false _ _ (rw h at (c 3));
-        node = split (ltb (s .sizes .caches) (e .node)) (λ t. clash (rw (h, t)) (c 4)) (λ f. ltb-false _ _ f);
+        line = leb-false _ _ (rw h at three);
+        node = split (ltb (s .sizes .caches) (e .node)) (λ t. clash (rw (h, t)) four) (λ f. ltb-false _ _ f);
       }
+
+  pub names : (k : ℕ) → slotted k ≡ false → Clear (tableOf s e k) → Named s e
+  unfolding Clear
+  names k h c = names-by k h (c 3) (c 4)
 
   pub caches : (k : ℕ) → slotted k ≡ false → forCaches k ≡ true → Clear (tableOf s e k) → Cached s e
   unfolding Clear applies table
   caches k h g c = record { named = names k h c; cache = rw g at (c 5) }
 
-  -- no message of the line bears the next serial
-  time-unborne : (k : ℕ) → timeout k ≡ true → Clear (tableOf s e k) → unborne s (e .line) (next (serialAt s (e .line))) ≡ true
-  unfolding Clear applies table
-  time-unborne k g c = split (unborne s (e .line) (next (serialAt s (e .line)))) (λ t. t) (λ f. clash (rw (g, f)) (c 17))
+  -- a timeout that has a number above 4 names a line and a node that exist
+  pub times-named : (k : ℕ) → timeout k ≡ true → 4 < given (tableOf s e k) → Named s e
+  times-named k t h =
+      names-by k (unslotted k t) (given-first (seen s e) e k 3 (omega arith)) (given-first (seen s e) e k 4 (omega arith))
 
-  pub times : (k : ℕ) → slotted k ≡ false → timeout k ≡ true → Clear (tableOf s e k) → Timeout s e
+  -- no message of the line bears the next serial, by the row 17
+  pub unborne-by : (k : ℕ) → timeout k ≡ true → applies 17 (tableOf s e k) ≡ false → unborne s (e .line) (next (serialAt s (e .line))) ≡ true
+  unfolding applies table
+  unborne-by k g c = split (unborne s (e .line) (next (serialAt s (e .line)))) (λ t. t) (λ f. clash (rw (g, f)) c)
+
+  -- with no copy, 18 leaves a backup somewhere, and 23 leaves it at the node
+  time-copy : (k : ℕ) → timeout k ≡ true → Clear (tableOf s e k) → copyless (cellAt s (e .line)) ≡ true → cellOf s e .backup ≡ true
   unfolding Clear applies table
-  times k h g c = record { named = names k h c; unborne = time-unborne k g c; copy = rw g at (c 18) }
+  time-copy k g c h =
+      split (cellOf s e .backup) (λ t. t)
+      (λ f.
+      split (backupless (cellAt s (e .line))) (λ none. clash (simp (g, h, none)) (c 18)) (λ some. clash (simp (g, h, some, f)) (c 23)))
+
+  pub times : (k : ℕ) → timeout k ≡ true → Clear (tableOf s e k) → Timeout s e
+  unfolding Clear
+  times k g c = record { named = names k (unslotted k g) c; unborne = unborne-by k g (c 17); copy = time-copy k g c }
 
   -- a slot that holds a message
   pub slots : (k : ℕ) → slotted k ≡ true → Clear (tableOf s e k) → (e .amount < 64) × (freeAt s (e .amount) ≡ false)

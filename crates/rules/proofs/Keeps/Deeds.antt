@@ -38,9 +38,9 @@ module _ (s : State) (e : Event) where
       (λ c. slot-deed 4 refl refl c (empties s (e .amount)))
       (λ c. want refl Read (caches s e 5 refl refl c))
       (λ c. want refl Write (caches s e 6 refl refl c))
-      (λ c. renew refl (times s e 7 refl refl c))
-      (λ c. renew refl (times s e 8 refl refl c))
-      (λ c. renew refl (times s e 9 refl refl c))
+      (λ c. renew refl (times s e 7 refl c))
+      (λ c. renew refl (times s e 8 refl c))
+      (λ c. renew refl (times s e 9 refl c))
       k
       (kind-small s e k c)
       c

@@ -5,7 +5,7 @@ use mathlib.Core.Path.{_≡_, refl, sym, _∙_}
 use borrow.Author.Tests.{eqb-true, eq-eqb}
 use lib.Dec.{eqb}
 use Rattle.rules.specs.Types.{State, Event, Stepped}
-use Rattle.rules.specs.Refusals.{timeout, slotted, refusal, reading, writing, sending, delivering, dropping, wantingRead, wantingWrite}
+use Rattle.rules.specs.Refusals.{timeout, refusal, reading, writing, sending, delivering, dropping, wantingRead, wantingWrite}
 use Rattle.rules.specs.Effects.{answered, readOf, writeOf, sendOf, wantOf, recreateOf, effect, stepOf}
 use Rattle.rules.proofs.Laws.Bools.{clash, split, by-pick}
 use Rattle.rules.proofs.Keeps.Accepted.{Timeout, accepted, by-kind, kind-small, times}
@@ -40,23 +40,21 @@ unfolding stepOf
 step-refused s e h = rw h
 
 -- an accepted timeout recreates the line's tokens
-pub timeout-effect : (s : State) (e : Event) (k : ℕ) → k ≤ 9 → timeout k ≡ true
-    → (slotted k ≡ false) × (effect s e k ≡ recreateOf s e)
+pub timeout-effect : (s : State) (e : Event) (k : ℕ) → k ≤ 9 → timeout k ≡ true → effect s e k ≡ recreateOf s e
 unfolding effect
 timeout-effect s e k h =
-    by-kind (λ k. timeout k ≡ true → (slotted k ≡ false) × (effect s e k ≡ recreateOf s e)) (λ t. clash t refl) (λ t. clash t refl) (λ t. clash t refl)
+    by-kind (λ k. timeout k ≡ true → effect s e k ≡ recreateOf s e) (λ t. clash t refl) (λ t. clash t refl) (λ t. clash t refl)
     (λ t. clash t refl)
     (λ t. clash t refl)
     (λ t. clash t refl)
     (λ t. clash t refl)
-    (λ _. (refl, refl))
-    (λ _. (refl, refl))
-    (λ _. (refl, refl))
+    (λ _. refl)
+    (λ _. refl)
+    (λ _. refl)
     k
     h
 
 pub recreates : (s : State) (e : Event) → timeout (e .kind) ≡ true → refusal s e ≡ 0 → Timeout s e × (stepOf s e ≡ recreateOf s e)
 recreates s e t h =
     let c = accepted s e h in
-    let p = timeout-effect s e (e .kind) (kind-small s e (e .kind) c) t in
-    (times s e (e .kind) (p .0) t c, step-effect s e h ∙ p .1)
+    (times s e (e .kind) t c, step-effect s e h ∙ timeout-effect s e (e .kind) (kind-small s e (e .kind) c) t)

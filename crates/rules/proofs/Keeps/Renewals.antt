@@ -29,7 +29,7 @@ next-small q = by-pick (λ x. x < 4) (ltb q 3) (λ t. omega (arith, ltb-true q 3
 
 -- the word of a recreation, and the line's cells after it, node by node
 abbrev pub wordOf : State → Event → ℕ
-wordOf s e = wordFor (cellAt s (e .line))
+wordOf s e = wordFor (cellAt s (e .line) (e .node)) (cellAt s (e .line))
 
 abbrev pub renewing : State → Event → ℕ → Cell
 renewing s e = recreatedLine (s .sizes .total .0) (e .node) (cellAt s (e .line))

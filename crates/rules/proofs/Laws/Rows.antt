@@ -74,6 +74,11 @@ applies-from a (r ∷ rs) h n d g =
 pub given-smallest : (v : Seen) (e : Event) (k n : ℕ) → applies n (table v e k) ≡ true → (0 < given (table v e k)) × (given (table v e k) ≤ n)
 given-smallest v e k n p = given-least 0 (table v e k) (table-ascends v e k) n p
 
+-- so no row of a smaller number applies
+pub given-first : (v : Seen) (e : Event) (k n : ℕ) → n < given (table v e k) → applies n (table v e k) ≡ false
+given-first v e k n l =
+    split (applies n (table v e k)) (λ t. absurd (omega (arith, given-smallest v e k n t .1))) (λ f. f)
+
 -- and it is that of a row which applies
 pub given-applies : (v : Seen) (e : Event) (k n : ℕ) → n ≢ 0 → given (table v e k) ≡ n → applies n (table v e k) ≡ true
 given-applies v e k n d g = applies-from 0 (table v e k) (table-ascends v e k) n d g

@@ -12,7 +12,7 @@ use Rattle.running.specs.Types.{Cell, MessageKind, Free, Tokens, Ownersh
 use Rattle.rules.specs.Tools.{firstTo, fillTo}
 use Rattle.rules.specs.States.{slotAt, isFree, bears}
 use Rattle.rules.specs.WellFormed.{wellFormed}
-use Rattle.rules.specs.Refusals.{freeAt, lowest, copyless, lowestFree, unborne}
+use Rattle.rules.specs.Refusals.{freeAt, lowest, copyless, backupless, lowestFree, unborne}
 use Rattle.rules.specs.Effects.{wordFor, recreatedLine}
 use Rattle.numbers.specs.Tags.{tagOf, Tagged, firstUntagged, absent}
 use Rattle.numbers.specs.Rows.{slotSight, slotRefusal}
@@ -102,16 +102,20 @@ module _ {f g : ℕ → Cell} (same : (n : ℕ) → n < 9 → f n ≡ g n) where
 
   pub copyless-same : copyless f ≡ copyless g
   unfolding copyless
-  copyless-same = rw (lowest-same (λ c. c .owner), lowest-same (λ c. c .valid), lowest-same (λ c. c .backup))
+  copyless-same = rw (lowest-same (λ c. c .owner), lowest-same (λ c. c .valid))
+
+  pub backupless-same : backupless f ≡ backupless g
+  unfolding backupless
+  backupless-same = rw (lowest-same (λ c. c .backup))
 
   found : (o : ℕ) (pr : Cell → ℕ) {x y : ℕ} → x ≡ y → pick (ltb o 9) (pr (f o)) x ≡ pick (ltb o 9) (pr (g o)) y
   found o pr h = split (ltb o 9) (λ t. rw t (ap pr (same o (ltb-true o 9 t)))) (λ n. rw n h)
 
-  pub word-same : wordFor f ≡ wordFor g
+  pub word-same : (node : ℕ) → node < 9 → wordFor (f node) f ≡ wordFor (g node) g
   unfolding wordFor
-  word-same =
-      rw (lowest-same (λ c. c .owner), lowest-same (λ c. c .valid), lowest-same (λ c. c .backup))
-      (found (lowest g (λ c. c .owner)) (λ c. c .word) (found (lowest g (λ c. c .valid)) (λ c. c .word) (found (lowest g (λ c. c .backup)) (λ c. c .saved) refl)))
+  word-same node h =
+      rw (lowest-same (λ c. c .owner), lowest-same (λ c. c .valid))
+      (found (lowest g (λ c. c .owner)) (λ c. c .word) (found (lowest g (λ c. c .valid)) (λ c. c .word) (ap (λ (c : Cell). pick (c .backup) (c .saved) 0) (same node h))))
 
-  pub after-same : (n node j : ℕ) → j < 9 → recreatedLine n node f j ≡ recreatedLine n node g j
-  after-same n node j l = rw (word-same, same j l)
+  pub after-same : (n node : ℕ) → node < 9 → (j : ℕ) → j < 9 → recreatedLine n node f j ≡ recreatedLine n node g j
+  after-same n node h j l = rw (word-same node h, same j l)

@@ -25,11 +25,11 @@ use Rattle.running.proofs.turns.turns.Statement.{statement}
 use Rattle.running.proofs.turns.turns.Tie as tie
 
 abbrev Inv-loop2 : tie.InvT-loop2
-Inv-loop2 n events answers t z total tags i at e out kind k l q number first nine₀ from₀ nine from =
+Inv-loop2 n events answers t z total tags i at e out kind k l x q number first nine₀ from₀ nine from =
     (from ≤ 9) × (length nine ≡ 9) × ((j : ℕ) → j < from → nth nine j ≡ getD (t .cells) (first + j) zeroCell)
 
 abbrev μ-loop2 : tie.MeasureT-loop2
-μ-loop2 n events answers t z total tags i at e out kind k l q number first nine₀ from₀ nine from = 9 - from
+μ-loop2 n events answers t z total tags i at e out kind k l x q number first nine₀ from₀ nine from = 9 - from
 
 abbrev Inv-loop3 : tie.InvT-loop3
 Inv-loop3 n events answers t₀ z total tags i at out kind k l number first nine from next free late word chosen to₀ t to =
