@@ -1,13 +1,11 @@
 -- One batch over the events among lines answers as the lines do one after the other. Assumes nothing.
 use Prim.Native.Nat.{ℕ, suc, _+_, _-_, _*_, _/_, _%_, _≤_, _<_, min}
 use mathlib.Core.Path.{_≡_, refl, sym, ap, _∙_}
-use mathlib.Core.Bool.{Bool, true, false, cond as pick}
 use mathlib.Core.List.{List, [], _∷_, _++_, map}
 use mathlib.Core.Option.{Option, none, some}
 use native.Mathlib.Omega.{arith}
 use native.Mathlib.Nat.{sub-zero}
-use borrow.Author.Tests.{eqb-true, eq-eqb, le-leb, le-ltb}
-use lib.Dec.{eqb}
+use borrow.Author.Tests.{eq-eqb, le-leb, le-ltb}
 use lib.ListN.{length, getD, take, drop, length-append, length-map, length-take, length-drop, List·getD-append}
 use lib.Seq.{sets, sets-eq, take-at, drop-at}
 use Rattle.rules.specs.declared.states.State.{State}
@@ -17,8 +15,9 @@ use Rattle.rules.specs.Effects.{stepOf}
 use Rattle.rules.specs.Runs.{runOf, answersOf, eventOf, eventsTo, eventsOf, wordsOf, batchNumber, batchOf, batchAnswers}
 use Rattle.text.specs.declared.chunks.Parsed.{Parsed}
 use Rattle.text.specs.Lines.{linesOf}
-use Rattle.text.specs.Reading.{numbersOf, exactly}
+use Rattle.text.specs.Reading.{numbersOf}
 use Rattle.text.specs.Chunks.{known, isKnown, eventIn, markOf, wordsIn, room, Parses}
+use Rattle.text.proofs.Laws.{exactly-long}
 use Rattle.writing.specs.Writing.{answerText, answersText, printed, printedCount}
 use Rattle.lines.specs.Program.{unreadable, eventLine, lineDoes, keptAfter, lineText, keptBy, printedBy}
 use Rattle.lines.specs.Chunks.{Lent, lent, mostLines, linesTaken, advanced, lentAfter}
@@ -26,17 +25,9 @@ use Rattle.lines.specs.Parts.{running}
 
 -- ---- the events among lines
 
-exactly-eight : (o : Option (List ℕ)) (ns : List ℕ) → exactly 8 o ≡ some ns → length ns ≡ 8
-exactly-eight none ns e = let z : _≡_ {A = ℕ} 0 1 = cc in absurd (omega arith)
-exactly-eight (some ms) ns e = by (eqb (length ms) 8) refl e
-  where
-    by : (t : Bool) → eqb (length ms) 8 ≡ t → pick t (some ms) none ≡ some ns → length ns ≡ 8
-    by true f e = let z : ms ≡ ns = cc in ap length (sym z) ∙ eqb-true _ _ f
-    by false f e = let z : _≡_ {A = ℕ} 0 1 = cc in absurd (omega arith)
-
 has-eight : (l ns : List ℕ) → eventIn l ≡ some ns → length ns ≡ 8
 unfolding eventIn
-has-eight l ns e = exactly-eight (numbersOf l) ns e
+has-eight l ns e = exactly-long 8 (numbersOf l) ns e
 
 event-first : (ns ws : List ℕ) → length ns ≡ 8 → eventOf (ns ++ ws) ≡ eventOf ns
 event-first ns ws h =

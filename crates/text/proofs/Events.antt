@@ -24,7 +24,7 @@ use Rattle.text.proofs.Lines.{lines-at, passed-nil}
 -- ---- a line that was read
 
 -- eight numbers over eight zeros
-full : (ns : List ℕ) → length ns ≡ 8 → ns ≡ sets (replicate 8 0) 0 ns
+pub full : (ns : List ℕ) → length ns ≡ 8 → ns ≡ sets (replicate 8 0) 0 ns
 full ns e =
     let k : 0 + length ns ≡ 8 = omega arith in
     sym (sets-eq ns (replicate 8 0) 0 (omega arith) ∙ ap (λ (j : ℕ). ns ++ drop j (replicate 8 0)) k ∙ append-nil ns)
@@ -68,7 +68,7 @@ next-any (some ns) next = next-either (leb (length ns) 8) ns next
 pub both-less : (a b c d : ℕ) → ltb a b && ltb c d ≡ true → (a < b) × (c < d)
 both-less a b c d e = let h = and-both (ltb a b) (ltb c d) e in (ltb-true a b (h .0), ltb-true c d (h .1))
 
-not-less : (a b c d : ℕ) → ltb a b && ltb c d ≡ false → (b ≤ a) ⊎ (d ≤ c)
+pub not-less : (a b c d : ℕ) → ltb a b && ltb c d ≡ false → (b ≤ a) ⊎ (d ≤ c)
 not-less a b c d e = either (ltb a b) refl e
   where
     either : (t : Bool) → ltb a b ≡ t → t && ltb c d ≡ false → (b ≤ a) ⊎ (d ≤ c)

@@ -1,6 +1,6 @@
--- The limit of 96 bytes. Assumes nothing.
+-- The limit of 96 bytes, and how many numbers a line has. Assumes nothing.
 use Prim.Native.Nat.{ℕ, _≤_}
-use mathlib.Core.Path.{_≡_, refl}
+use mathlib.Core.Path.{_≡_, refl, sym, ap, _∙_}
 use mathlib.Core.Bool.{Bool, true, false, cond as pick}
 use mathlib.Core.List.{List, [], _∷_}
 use mathlib.Core.Option.{Option, none, some}
@@ -12,9 +12,19 @@ use Rattle.text.specs.Reading.{fieldsOf, allDigits, unpadded, spelled, v
 use Rattle.text.specs.Parts.{numbers}
 use Rattle.text.proofs.Lengths.{afterTabs, short-line}
 
-within : (t : Bool) (o : Option (List ℕ)) (ns : List ℕ) → pick t o none ≡ some ns → o ≡ some ns
+-- what is given under a condition is what stands there
+pub within : (t : Bool) (o : Option (List ℕ)) (ns : List ℕ) → pick t o none ≡ some ns → o ≡ some ns
 within true o ns e = e
 within false o ns e = let z : _≡_ {A = ℕ} 0 1 = cc in absurd (omega arith)
+
+-- numbers that are to be k are k
+pub exactly-long : (k : ℕ) (o : Option (List ℕ)) (x : List ℕ) → exactly k o ≡ some x → length x ≡ k
+exactly-long k none x e = absurd (let z : _≡_ {A = ℕ} 0 1 = cc in omega arith)
+exactly-long k (some ns) x e = by (eqb (length ns) k) refl e
+  where
+    by : (t : Bool) → eqb (length ns) k ≡ t → pick t (some ns) none ≡ some x → length x ≡ k
+    by true p q = let e : ns ≡ x = cc in sym (ap length e) ∙ eqb-true _ _ p
+    by false p q = absurd (let z : _≡_ {A = ℕ} 0 1 = cc in omega arith)
 
 -- a readable line of at most eight numbers has at most 87 bytes
 pub at-most-87 : (l ns : List ℕ) → numbersOf l ≡ some ns → length ns ≤ 8 → length l ≤ 87

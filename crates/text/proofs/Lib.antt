@@ -2,10 +2,12 @@ pub mod Bools
 pub mod Values
 pub mod Fields
 pub mod Lines
+pub mod Sequences
 pub mod Lengths
 pub mod Runs
 pub mod Takes
 pub mod Plain
 pub mod Stores
 pub mod Events
+pub mod NineFields
 pub mod Laws

@@ -61,7 +61,7 @@ any-length l none next e = same (leb (length l) 96)
 any-length l (some ns) next e =
     few ns (leb (length l) 96) next (λ h. le-leb (length l) 96 (let k = short-line l ns e in omega arith))
 
-taken-is : (s : List ℕ) (from : ℕ) → packed (numbers (firstLine (drop from s))) (from + passed (drop from s)) ≡ takenAt s from
+pub taken-is : (s : List ℕ) (from : ℕ) → packed (numbers (firstLine (drop from s))) (from + passed (drop from s)) ≡ takenAt s from
 unfolding takenAt numbersOf
 taken-is s from = sym (any-length (firstLine (drop from s)) (numbers (firstLine (drop from s))) _ refl)
 
@@ -147,7 +147,7 @@ module _ (s : List ℕ) (from i count : ℕ) (words : List ℕ) (left : Left s f
       rw (e, ← gone) (rw (n, le-leb (count + 1) 8 (omega arith)) at (left .line))
 
   -- a byte that no field goes on with
-  wrong-byte : (b : ℕ) (t : Bool) → isDigit b ≡ t → (isDigit b ≡ true → 1000000000 ≤ r .value) → (g : List ℕ) → valueOf (f .run .text ++ (b ∷ g)) ≡ none
+  pub wrong-byte : (b : ℕ) (t : Bool) → isDigit b ≡ t → (isDigit b ≡ true → 1000000000 ≤ r .value) → (g : List ℕ) → valueOf (f .run .text ++ (b ∷ g)) ≡ none
   wrong-byte b true e k g =
       let a = spelled-snoc (f .run .text) 0 b in
       let v = f .run .spell in

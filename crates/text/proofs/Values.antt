@@ -73,7 +73,8 @@ unpadded-one [] h = refl
 unpadded-one (b ∷ []) h = refl
 unpadded-one (b ∷ c ∷ f) h = absurd (omega arith)
 
-lead-some : (b : ℕ) (f : List ℕ) → unpadded (b ∷ f) ≡ true → isDigit b ≡ true → 1 ≤ length f → 1 ≤ b - 48
+-- the first of more digits than one is not 0
+pub lead-some : (b : ℕ) (f : List ℕ) → unpadded (b ∷ f) ≡ true → isDigit b ≡ true → 1 ≤ length f → 1 ≤ b - 48
 unfolding unpadded
 lead-some b [] u d h = absurd (omega arith)
 lead-some b (c ∷ f) u d h = lead (eqb b 48) refl u
@@ -101,15 +102,22 @@ unfolding valueOf
 value-some f h p u k =
     rw (le-leb 1 (length f) h, le-leb (length f) 10 (at-most-ten f p u k), p, u, le-leb (spelled 0 f) 4294967295 k)
 
--- a readable field has at most ten bytes
-pub ten-bytes : (f : List ℕ) (n : ℕ) → valueOf f ≡ some n → length f ≤ 10
+-- what a readable field is
+pub field-is : (f : List ℕ) (n : ℕ) → valueOf f ≡ some n
+    → (1 ≤ length f) × (length f ≤ 10) × (allDigits f ≡ true) × (unpadded f ≡ true) × (spelled 0 f ≡ n)
 unfolding valueOf
-ten-bytes f n e =
+field-is f n e =
     let a = cond-some _ _ _ e in
     let b = and-both (leb 1 (length f) && leb (length f) 10 && allDigits f && unpadded f) (leb (spelled 0 f) 4294967295) a in
     let c = and-both (leb 1 (length f) && leb (length f) 10 && allDigits f) (unpadded f) (b .0) in
     let d = and-both (leb 1 (length f) && leb (length f) 10) (allDigits f) (c .0) in
-    leb-true (length f) 10 (and-both (leb 1 (length f)) (leb (length f) 10) (d .0) .1)
+    let g = and-both (leb 1 (length f)) (leb (length f) 10) (d .0) in
+    let v : some (spelled 0 f) ≡ some n = rw a at e in
+    (leb-true 1 (length f) (g .0), leb-true (length f) 10 (g .1), d .1, c .1, (cc))
+
+-- it has at most ten bytes
+pub ten-bytes : (f : List ℕ) (n : ℕ) → valueOf f ≡ some n → length f ≤ 10
+ten-bytes f n e = field-is f n e .1
 
 -- ---- fields that are not readable
 

@@ -18,7 +18,7 @@ pub struct Taken {
 }
 
 // A line that is not readable, seen at a place.
-fn skip(s: &[u8], from: usize) -> Taken
+pub(crate) fn skip(s: &[u8], from: usize) -> Taken
     ensures { λ r. ⌜ r ≡ Rattle.text.specs.Reading.unread (from + passed (drop from (now (s .entry)))) ⌝ }
 {
     let n = s.len();

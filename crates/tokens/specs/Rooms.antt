@@ -3,7 +3,7 @@ use Prim.Native.Nat.{ℕ, _≤_, _<_}
 use mathlib.Core.Path.{_≡_}
 use mathlib.Core.List.{List}
 use lib.ListN.{length, take}
-use Rattle.trace.specs.Arrivals.{wholeOf}
+use Rattle.held.specs.Wholes.{wholeOf}
 
 -- so many bytes are held in a buffer, and where no line of them is whole there is room for more
 pub record Room (buf : List ℕ) (held : ℕ) : Type 0 where

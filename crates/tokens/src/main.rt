@@ -1,16 +1,12 @@
 // The program `tokens`: lines of numbers from standard input or one file, an answer to each to standard output. What it is
 // to print is `program` of lines/specs. It reads, lets `trace::turn` answer, and writes; that such turns print no more and
 // no less, however the input arrives, is `arrives` in trace/proofs.
-mod reading;
-mod telling;
-mod writing;
-
-use reading::read_more;
-use telling::refuse;
-use telling::tell;
+use streams::read_more;
+use streams::send;
+use streams::tell;
 use trace::Kept;
-use writing::send;
 ghost use Prim.Native.Nat.{_<_};
+ghost use mathlib.Core.Path.{_≡_};
 ghost use lib.ListN.{length};
 ghost use Rattle.tokens.specs.Rooms.{Room};
 
@@ -21,7 +17,29 @@ struct Went {
     on: bool,
 }
 
-// Reads, answers and writes. A read that fails leaves no whole line held, so that nothing is answered after it.
+// What failed, and errno's words.
+fn told(what: &[u8]) {
+    tell(b"tokens", what);
+}
+
+// How the program is called.
+fn usage() {
+    io::write_all(2, b"usage: tokens [FILE]\n");
+}
+
+// No turn is due, and nothing is held.
+fn ended(kept: Kept) -> Went
+    ensures { λ r. ⌜ r .held ≡ 0 ⌝ }
+{
+    Went {
+        kept,
+        held: 0,
+        on: false,
+    }
+}
+
+// Reads, answers and writes. A read that fails leaves no whole line held, so that nothing is to be answered after it. `Room`
+// keeps the turns from going on for nothing: where no whole line is held, there is room for a read.
 fn go(
     kept: Kept,
     held: usize,
@@ -37,23 +55,26 @@ fn go(
     requires { ⌜ Room (now buf) held ⌝ }
     ensures { λ r. ⌜ Room (now (buf .exit)) (r .held) ⌝ }
 {
-    let got = read_more(fd, name, buf, held);
+    let got = read_more(fd, buf, held);
+    if got.failed {
+        told(name);
+        return ended(kept);
+    }
     // a turn with no line would check the whole state for nothing
     if got.last & (got.held == 0) {
-        return Went {
-            kept,
-            held: 0,
-            on: false,
-        };
+        return ended(kept);
     }
     let t = trace::turn(kept, buf, got.held, got.last, words, marks, answers, out);
     let sent = send(out, t.written);
+    if !sent {
+        told(b"standard output");
+    }
     let next = t.kept;
     let left = t.held;
     Went {
         kept: next,
         held: left,
-        on: sent & !got.failed & !(got.last & (left == 0)),
+        on: sent & !(got.last & (left == 0)),
     }
 }
 
@@ -109,12 +130,12 @@ fn answer_file() {
     let mut path = io::buffer();
     let n = os::arg(1, &mut path);
     if os::errno() != 0 {
-        tell(b"the file's name");
+        told(b"the file's name");
         return;
     }
     let fd = os::open_read(&path[..n]);
     if fd < 0 {
-        tell(&path[..n]);
+        told(&path[..n]);
         return;
     }
     answer(fd, &path[..n]);
@@ -123,7 +144,7 @@ fn answer_file() {
 fn main() {
     let words = os::arg_count();
     if words > 2 {
-        refuse();
+        usage();
         return;
     }
     if words == 2 {

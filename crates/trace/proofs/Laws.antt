@@ -7,19 +7,21 @@ use mathlib.Core.Option.{none}
 use native.Mathlib.Omega.{arith}
 use borrow.Author.Tests.{lt-leb, leb-true, leb-false, eqb-true}
 use lib.Dec.{leb, eqb}
-use lib.ListN.{length, take, drop, length-append, take-append-drop}
-use lib.Seq.{sets-eq, drop-length, take-append-seam, take-all, length-take-le, drop-append-le}
+use lib.ListN.{length, take, drop, length-append}
+use lib.Seq.{sets-eq, drop-length, take-append-seam, take-all, length-take-le}
 use Rattle.text.specs.Lines.{linesOf, firstLine, passedBy}
 use Rattle.text.specs.Reading.{numbersOf}
+use Rattle.text.proofs.Sequences.{lines-split, passed-all}
 use Rattle.text.proofs.Bools.{and-both}
 use Rattle.text.proofs.Lines.{free, lines-free}
 use Rattle.lines.specs.declared.kept.Kept.{Kept}
 use Rattle.lines.specs.Program.{nothingKept, lineDoes, keptAfter, keptBy, printedBy, program}
-use Rattle.trace.specs.Arrivals.{wholeOf, readyIn, clipped, answeredIn, heldAfter, turned, Prints, ended, part, last}
+use Rattle.trace.specs.Arrivals.{readyIn, clipped, answeredIn, heldAfter, turned, Prints, ended, part, last}
 use Rattle.lines.specs.Chunks.{Lent, mostLines, lentAfter}
-use Rattle.lines.proofs.Lists.{printed-append, lines-split}
-use Rattle.trace.proofs.Wholes.{cut, whole-drop, lines-whole, no-feed}
-use Rattle.lines.proofs.Sizes.{passed-by-within, passed-all, written-fits}
+use Rattle.lines.proofs.Lists.{printed-append}
+use Rattle.held.specs.Wholes.{wholeOf}
+use Rattle.held.proofs.Wholes.{lines-turn, no-feed}
+use Rattle.lines.proofs.Sizes.{written-fits}
 
 -- some lines first, then the others
 pub in-turn : (n : ℕ) (s : List ℕ) (k : Kept)
@@ -74,45 +76,20 @@ as-clipped k s r = by (eqb (wholeOf s) 0) refl
 
 -- ---- how the input arrives decides nothing
 
--- lines that a turn leaves, with what follows them
-lines-after : (a x : List ℕ) (most : ℕ) → wholeOf a ≡ length a
-    → linesOf (a ++ x) ≡ take most (linesOf a) ++ linesOf (drop (passedBy most a) a ++ x)
-lines-after a x most h =
-    lines-whole a x h
-    ∙ ap (λ (ls : List (List ℕ)). ls ++ linesOf x) (lines-split most a)
-    ∙ append-assoc (take most (linesOf a)) _ _
-    ∙ ap (λ (ls : List (List ℕ)). take most (linesOf a) ++ ls) (sym (lines-whole (drop (passedBy most a) a) x (whole-drop (passedBy most a) a h)))
-
 -- a turn on the whole lines, with what follows
 module _ (k : Kept) (s r : List ℕ) (most : ℕ) where
   abbrev a : List ℕ
   a = take (wholeOf s) s
 
-  abbrev b : List ℕ
-  b = drop (wholeOf s) s
-
   abbrev n : ℕ
   n = passedBy most a
-
-  left : drop n a ++ (b ++ r) ≡ drop n s ++ r
-  left =
-      sym (append-assoc (drop n a) b r)
-      ∙ ap (λ (x : List ℕ). x ++ r) (sym (drop-append-le n a b (passed-by-within most a)) ∙ ap (drop n) (take-append-drop (wholeOf s) s))
-
-  lines-turn : linesOf (s ++ r) ≡ take most (linesOf a) ++ linesOf (drop n s ++ r)
-  lines-turn =
-      let c = cut s in
-      ap (λ (x : List ℕ). linesOf (x ++ r)) (sym (take-append-drop (wholeOf s) s))
-      ∙ ap linesOf (append-assoc a b r)
-      ∙ lines-after a (b ++ r) most (c .whole ∙ sym (length-take-le (wholeOf s) s (c .within)))
-      ∙ ap (λ (x : List ℕ). take most (linesOf a) ++ linesOf x) left
 
   turn-part : printedBy k (answeredIn most false s) ++ printedBy (keptBy k (answeredIn most false s)) (linesOf (heldAfter most false s ++ r))
       ≡ printedBy k (linesOf (s ++ r))
   unfolding heldAfter
   turn-part =
       ap (λ (x : List ℕ). printedBy k (take most (linesOf a)) ++ x) (as-clipped (keptBy k (take most (linesOf a))) (drop n s) r)
-      ∙ sym (ap (printedBy k) lines-turn ∙ printed-append (take most (linesOf a)) _ k)
+      ∙ sym (ap (printedBy k) (lines-turn s r most) ∙ printed-append (take most (linesOf a)) _ k)
 
 -- a turn at the end of input
 turn-last : (k : Kept) (s : List ℕ) (most : ℕ)

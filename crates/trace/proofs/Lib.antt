@@ -1,4 +1,2 @@
-pub mod Wholes
-pub mod Copies
 pub mod Turns
 pub mod Laws

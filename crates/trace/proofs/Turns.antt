@@ -1,32 +1,24 @@
 -- What the functions of a turn give each other. Assumes nothing.
-use Prim.Native.Nat.{ℕ, _+_, _-_, _≤_, _<_, min}
+use Prim.Native.Nat.{ℕ, _-_, _≤_, min}
 use mathlib.Core.Path.{_≡_, refl, sym, ap, subst, _∙_}
 use mathlib.Core.Bool.{Bool, true, false, cond as pick}
 use mathlib.Core.List.{List}
 use native.Mathlib.Omega.{arith}
-use borrow.Author.Tests.{eq-eqb, ne-eqb, eqb-false, leb-true, leb-false}
-use lib.Dec.{eqb, leb}
+use borrow.Author.Tests.{eq-eqb, ne-eqb, eqb-false}
+use lib.Dec.{eqb}
 use lib.ListN.{length, take, drop, length-take, length-drop}
-use lib.Seq.{sets, sets-eq, take-append-seam, take-all, take-take, take-add, drop-at, length-take-le}
+use lib.Seq.{sets, sets-eq, take-append-seam, take-all, take-take}
 use Rattle.text.specs.Lines.{passedBy}
 use Rattle.lines.specs.declared.kept.Kept.{Kept}
 use Rattle.lines.specs.declared.kept.Advanced.{Advanced}
 use Rattle.trace.specs.declared.turning.Turned.{Turned}
 use Rattle.lines.specs.Chunks.{Lent, mostLines, advanced, lentAfter}
-use Rattle.trace.specs.Arrivals.{wholeOf, readyIn, clipped, heldAfter, turned}
-use Rattle.trace.proofs.Wholes.{cut}
+use Rattle.trace.specs.Arrivals.{readyIn, clipped, heldAfter, turned}
+use Rattle.held.proofs.Fronts.{Front, take-least, between, less-none}
+use Rattle.held.specs.Moves.{piece}
+use Rattle.held.specs.Wholes.{wholeOf}
+use Rattle.held.proofs.Wholes.{cut}
 use Rattle.lines.proofs.Sizes.{read-within, written-fits}
-
--- so many bytes of a list, all of which lie in it
-abbrev pub Front : List ℕ → ℕ → List ℕ → Type 0
-Front s r front = (take r s ≡ front) × (r ≤ length s)
-
-take-least : (n r : ℕ) (s : List ℕ) → r ≡ min n (length s) → take r s ≡ take n s
-take-least n r s e = by (leb n (length s)) refl
-  where
-    by : (t : Bool) → leb n (length s) ≡ t → take r s ≡ take n s
-    by true h = let g : n ≤ length s = leb-true _ _ h in let x : r ≡ n = omega arith in ap (λ (m : ℕ). take m s) x
-    by false h = let g : length s < n = leb-false n (length s) h in take-all r s (omega arith) ∙ sym (take-all n s (omega arith))
 
 -- ---- what can be answered
 
@@ -46,37 +38,21 @@ pub held-all : (s : List ℕ) (n : ℕ) → n ≡ wholeOf s → (n ≡ 0 → ⊥
 unfolding clipped
 held-all s n w z = rw (ne-eqb (wholeOf s) 0 (λ e. z (w ∙ e))) (take-all (length s) s (omega arith), omega arith)
 
--- the bytes between two places
-pub between : (d : List ℕ) (from to : ℕ) → from ≤ to → to ≤ length d → drop from (take to d) ≡ take (to - from) (drop from d)
-between d from to h k =
-    let e : to ≡ from + (to - from) = omega arith in
-    ap (λ (n : ℕ). drop from (take n d)) e
-    ∙ ap (drop from) (take-add from (to - from) d)
-    ∙ drop-at (take from d) _ from (length-take-le from d (omega arith))
-
 -- what `hold` gives
 module _ (d : List ℕ) (from to n : ℕ) (h : from ≤ to) (k : to ≤ length d)
     (f : Front (take (to - from) (drop from d)) n (clipped (take (to - from) (drop from d)))) where
-  hold-fits : from + n ≤ length d
-  hold-fits = let l = length-take (to - from) (drop from d) in let m = length-drop from d in let g = f .1 in omega arith
-
-  hold-bytes : take n (drop from d) ≡ clipped (drop from (take to d))
+  hold-bytes : piece from n d ≡ clipped (drop from (take to d))
+  unfolding piece
   hold-bytes =
       sym (take-take n (to - from) (drop from d) (let l = length-take (to - from) (drop from d) in let g = f .1 in omega arith))
       ∙ f .0
       ∙ ap clipped (sym (between d from to h k))
 
-  pub holds : (d′ : List ℕ) → d′ ≡ sets d 0 (take n (drop from d))
-      → (n ≡ length (clipped (drop from (take to d)))) × (d′ ≡ sets d 0 (clipped (drop from (take to d))))
-  holds d′ e = (
-    sym (ap length (sym hold-bytes) ∙ length-take-le n (drop from d) (let l = hold-fits in let m = length-drop from d in omega arith)),
-    e ∙ ap (sets d 0) hold-bytes,
-  )
+  pub holds : (r : ℕ) (d′ : List ℕ) → (r ≡ length (piece from n d)) × (d′ ≡ sets d 0 (piece from n d))
+      → (r ≡ length (clipped (drop from (take to d)))) × (d′ ≡ sets d 0 (clipped (drop from (take to d))))
+  holds r d′ m = (m .0 ∙ ap length hold-bytes, m .1 ∙ ap (sets d 0) hold-bytes)
 
 -- ---- a turn
-
-less-none : (n : ℕ) → n - 0 ≡ n
-less-none n = omega arith
 
 -- the lines answered lie among the bytes held
 pub read-fits : (k : Kept) (s : List ℕ) (l : Lent) (end : ℕ) (r : Advanced) → r ≡ advanced k (take (end - 0) s) l → r .read ≤ end

@@ -1,19 +1,15 @@
 -- An input that arrives in parts, which cut lines anywhere, and the turns that answer it. Assumes nothing.
-use Prim.Native.Nat.{ℕ, suc}
+use Prim.Native.Nat.{ℕ}
 use mathlib.Core.Bool.{Bool, true, false, cond as pick}
 use mathlib.Core.List.{List, [], _∷_, _++_}
 use lib.Dec.{eqb}
 use lib.ListN.{length, take, drop}
+use Rattle.held.specs.Wholes.{wholeOf}
 use Rattle.text.specs.Lines.{linesOf, passedBy}
 use Rattle.lines.specs.declared.kept.Kept.{Kept}
 use Rattle.trace.specs.declared.turning.Turned.{Turned}
 use Rattle.lines.specs.Program.{keptBy, printedBy}
 use Rattle.lines.specs.Chunks.{Lent, mostLines}
-
--- how many bytes the whole lines are: up to the last line feed
-unfoldable pub wholeOf : List ℕ → ℕ
-wholeOf [] = 0
-wholeOf (b ∷ s) = pick (eqb (wholeOf s) 0) (pick (eqb b 10) 1 0) (suc (wholeOf s))
 
 -- the bytes that can be answered: the whole lines, and at the end of input all
 abbrev pub readyIn : Bool → List ℕ → List ℕ

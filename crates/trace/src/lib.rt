@@ -2,7 +2,6 @@
 mod holding;
 mod turning;
 
-pub use holding::whole;
 pub use lines::Kept;
 pub use lines::unstarted;
 pub use turning::Turned;

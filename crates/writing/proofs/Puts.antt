@@ -26,6 +26,11 @@ unfolding decimalTo
 shorter zero n = omega arith
 shorter (suc k) n = one-more (ltb n 10) _ _ (decimalTo k (n / 10)) k (shorter k (n / 10))
 
+-- a number has at most ten digits
+pub decimal-short : (n : ℕ) → length (decimal n) ≤ 10
+unfolding decimal
+decimal-short n = shorter 10 n
+
 pub length-ended : (n b : ℕ) → length (ended n b) ≡ length (decimal n) + 1
 unfolding ended
 length-ended n b = rw length-append
@@ -40,11 +45,10 @@ pub lengths : (a b c : ℕ)
 lengths a b c = (length-answer a b c, length-ended a 9, length-ended b 9)
 
 pub answer-short : (a b c : ℕ) → length (answerText a b c) ≤ 33
-unfolding decimal
 answer-short a b c =
-    let x = shorter 10 a in
-    let y = shorter 10 b in
-    let z = shorter 10 c in
+    let x = decimal-short a in
+    let y = decimal-short b in
+    let z = decimal-short c in
     let l = length-answer a b c in
     omega arith
 

@@ -1,5 +1,5 @@
 -- The text of an answer and of many (document 01, "Batch and program"), and where it is put. Assumes nothing.
-use Prim.Native.Nat.{ℕ, zero, suc, _+_, _/_, _%_}
+use Prim.Native.Nat.{ℕ, zero, suc, _+_, _*_, _/_, _%_}
 use mathlib.Core.Bool.{Bool, cond as pick, _&&_}
 use mathlib.Core.List.{List, [], _∷_, _++_}
 use lib.Dec.{leb, ltb, eqb}
@@ -50,3 +50,20 @@ printed d ms ws = pick (printable d ms ws) (sets d 0 (answersText ms ws)) d
 -- how many bytes that puts
 unfoldable pub printedCount : List ℕ → List ℕ → List ℕ → ℕ
 printedCount d ms ws = pick (printable d ms ws) (length (answersText ms ws)) 0
+
+-- numbers as a line: after each a tab, after the last a line feed
+unfoldable pub lineOf : List ℕ → List ℕ
+lineOf [] = []
+lineOf (n ∷ ns) = ended n (pick (eqb (length ns) 0) 10 9) ++ lineOf ns
+
+-- there is room for a line of numbers from place `at` on: 11 bytes for each
+abbrev pub lineFits : List ℕ → ℕ → List ℕ → Bool
+lineFits d at ns = leb (at + 11 * length ns) (length d)
+
+-- d with that line from place `at` on, where there is room; else d as it is
+unfoldable pub lined : List ℕ → ℕ → List ℕ → List ℕ
+lined d at ns = pick (lineFits d at ns) (sets d at (lineOf ns)) d
+
+-- how many bytes that puts
+unfoldable pub linedCount : List ℕ → ℕ → List ℕ → ℕ
+linedCount d at ns = pick (lineFits d at ns) (length (lineOf ns)) 0

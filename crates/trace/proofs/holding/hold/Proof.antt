@@ -16,8 +16,8 @@ part-held-of-end c = search needs
 held-of-requires : tie.Need-held-of-requires
 held-of-requires c κs = search needs
 
-copy-front-requires : tie.Need-copy-front-requires
-copy-front-requires c κs = search needs
+bytes-up-requires : tie.Need-bytes-up-requires
+bytes-up-requires c κs = search needs
 
 same-length : tie.Need-same-length
 same-length c = search needs
@@ -26,7 +26,7 @@ returns : tie.Need-returns
 returns c =
     let a = c .before .before .before .before .before .before .before .before .args in
     let p = c .before .before .before .before .before .before .before .before .pre in
-    holds (now (a .buf)) (a .from) (a .to) _ (p .0) (p .1) (c .before .before .before .before .held-of .ensures) _ (c .before .before .copy-front .ensures)
+    holds (now (a .buf)) (a .from) (a .to) _ (p .0) (p .1) (c .before .before .before .before .held-of .ensures) _ _ (c .before .before .bytes-up .ensures)
 
 pub hold-spec : {M : Type 1} → statement M
 hold-spec =
@@ -36,6 +36,6 @@ hold-spec =
     part-held-of-start
     part-held-of-end
     held-of-requires
-    copy-front-requires
+    bytes-up-requires
     same-length
     returns)

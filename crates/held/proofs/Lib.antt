@@ -1,0 +1,4 @@
+pub mod Wholes
+pub mod Feeding
+pub mod Fronts
+pub mod Copies

@@ -1,0 +1,2 @@
+pub mod Wholes
+pub mod Moves

@@ -1,0 +1,13 @@
+pub mod Texts
+pub mod Lined
+pub mod Loads
+pub mod Leaving
+pub mod Shown
+pub mod Rounds
+pub mod Stood
+pub mod Prefixes
+pub mod Ways
+pub mod Laws
+pub mod Links
+pub mod Exists
+pub mod Printed

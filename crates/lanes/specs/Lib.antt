@@ -1,0 +1,5 @@
+pub mod Files
+pub mod Program
+pub mod Parts
+pub mod Steps
+pub mod Arrivals

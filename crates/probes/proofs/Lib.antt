@@ -1,0 +1,12 @@
+pub mod Chunks
+pub mod Going
+pub mod Refusals
+pub mod Answers
+pub mod Merging
+pub mod Rising
+pub mod Firsts
+pub mod Ends
+pub mod Portions
+pub mod Words
+pub mod Laws
+pub mod Example
