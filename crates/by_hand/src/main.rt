@@ -1,5 +1,7 @@
 // States made by hand, some of which no start reaches, each beside a neighbour: what a step answers, one line for each. Then
 // batches of reads at cache 0 with lists of several lengths: number and count, and the answer words, which held 77.
+#![tactic(auto)]
+
 ghost use Rattle.std.specs.Prelude.{◌≤◌, length};
 
 use rules::cells::{Cell, Want};

@@ -3,7 +3,7 @@ use streams::read_more;
 
 // The bytes that are held, the words that are to be joined, the last time, how many lines were read, and how the file ends:
 // the number of a line that is refused, the end of the file, or a read that failed.
-#[derive(Drop)]
+#[derive(Clone, Copy)]
 pub(crate) struct Lane {
     pub(crate) held: usize,
     pub(crate) count: usize,

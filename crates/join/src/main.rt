@@ -1,6 +1,8 @@
 // The program `join`: two files of probe records, printed by time. What it is to print and to tell is `printed` and `told` of
 // lanes/specs. It reads, lets `lanes` load and join a part of each file, and writes; that such turns print no more and no
 // less, however the files arrive, is `arrives` in lanes/proofs.
+#![tactic(auto)]
+
 mod lane;
 mod telling;
 
@@ -9,7 +11,7 @@ use streams::send;
 use telling::{refused, told, usage};
 
 // What both files have left after a turn, and whether another is due.
-#[derive(Drop)]
+#[derive(Clone, Copy)]
 struct Went {
     first: Lane,
     second: Lane,

@@ -6,7 +6,7 @@ ghost use Rattle.lanes.specs.Parts.{read_in};
 ghost use Rattle.lanes.specs.Steps.{filled, line_number};
 
 // How many words were put, the place of the first line that was not read, the last time, and the number of that line.
-#[derive(Drop)]
+#[derive(Clone, Copy)]
 pub(crate) struct Filled {
     pub(crate) count: usize,
     pub(crate) next: usize,

@@ -1,5 +1,7 @@
 // Two probes' files on their way through the program `join`: a part of each is read as records, and joined, printed and moved
 // up in turns. No input or output here.
+#![tactic(auto)]
+
 mod filling;
 mod loading;
 mod printing;

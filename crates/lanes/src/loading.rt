@@ -7,7 +7,7 @@ use held::{bytes_up, whole};
 use text::least;
 
 // How many words were put, how many bytes are still held, the last time, and the number of the line that is refused or 0.
-#[derive(Drop)]
+#[derive(Clone, Copy)]
 pub struct Loaded {
     pub count: usize,
     pub held: usize,

@@ -9,7 +9,7 @@ use probes::join;
 use text::least;
 
 // The number of a turn, how many words it leaves of each list, and how many bytes it put.
-#[derive(Drop)]
+#[derive(Clone, Copy)]
 pub struct Turned {
     pub number: u32,
     pub first: usize,
@@ -18,7 +18,7 @@ pub struct Turned {
 }
 
 // The number of a join, how many words its rest has, and how many bytes were put.
-#[derive(Drop)]
+#[derive(Clone, Copy)]
 struct Printed {
     number: u32,
     left: usize,
@@ -57,7 +57,7 @@ fn join_print<'a>(first: &'a [u32], second: &'a [u32], third: &mut [u32], out: &
 }
 
 // How many words are left of each list.
-#[derive(Drop)]
+#[derive(Clone, Copy)]
 struct Left {
     first: usize,
     second: usize,

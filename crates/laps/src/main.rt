@@ -2,6 +2,8 @@
 // from the memory to cache 0 with both acknowledgments, writes it, and hands it back: 144 events, all accepted. The first byte
 // says how many of them a lap runs.
 
+#![tactic(auto)]
+
 ghost use Rattle.std.specs.Prelude.{◌≤◌};
 
 // The event record at a place.

@@ -2,14 +2,14 @@
 use rules::states::State;
 
 // Whether the start line was read, and the state.
-#[derive(Drop)]
+#[derive(Clone, Copy)]
 pub struct Kept {
     pub started: bool,
     pub state: State,
 }
 
 // What is kept after some lines, the bytes that they were, and the bytes that were put for them.
-#[derive(Drop)]
+#[derive(Clone, Copy)]
 pub struct Advanced {
     pub kept: Kept,
     pub read: usize,

@@ -1,4 +1,6 @@
 // Whole lines of a trace and their answers: the start line, then events. What is kept between lines.
+#![tactic(auto)]
+
 mod advancing;
 mod events;
 mod kept;

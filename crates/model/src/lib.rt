@@ -1,4 +1,6 @@
 // The model of document 01: the functions that a user calls. They take every value that their types can hold.
+#![tactic(auto)]
+
 mod steps;
 
 pub use steps::{batch, step};

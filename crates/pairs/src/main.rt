@@ -2,10 +2,12 @@
 // other, the second how many records each has, and each further byte is one join. Prints the number, the count, the length of the
 // rest and a sum over the third list, of the last join and of one with the lists the other way round.
 
+#![tactic(auto)]
+
 ghost use Rattle.std.specs.Prelude.{◌≤◌};
 
 // What the last join gave.
-#[derive(Drop)]
+#[derive(Clone, Copy)]
 struct Ended {
     number: u32,
     count: usize,

@@ -6,7 +6,7 @@ ghost use Rattle.probes.specs.Parts.{Merges};
 use crate::records::{put, record_at, time_falls};
 
 // How many words a merge took of each list, and whether the first list is used up.
-#[derive(Drop)]
+#[derive(Clone, Copy)]
 struct Merged {
     first: usize,
     second: usize,

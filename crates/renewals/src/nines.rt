@@ -16,7 +16,7 @@ pub fn next_serial(q: Serial) -> Serial
 }
 
 // A mark that a recreation looks for.
-#[derive(Drop)]
+#[derive(Clone, Copy)]
 enum Mark {
     Owner,
     Valid,

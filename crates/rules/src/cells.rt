@@ -1,7 +1,7 @@
 // What one node holds of one line.
 use crate::numbers::Count;
 
-#[derive(Drop)]
+#[derive(Clone, Copy)]
 pub enum Want {
     Nothing,
     Read,
@@ -9,7 +9,7 @@ pub enum Want {
 }
 
 // `word` is the data word, `saved` the backup word.
-#[derive(Drop)]
+#[derive(Clone, Copy)]
 pub struct Cell {
     pub tokens: Count,
     pub valid: bool,

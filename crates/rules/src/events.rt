@@ -5,7 +5,7 @@ use crate::states::State;
 
 // The eight words of an event record. `amount` is the amount of a send and the slot of a delivery or a drop;
 // `owner` and `full` are the owner mark and the data mark.
-#[derive(Drop)]
+#[derive(Clone, Copy)]
 pub struct Event {
     pub kind: u32,
     pub line: u32,
@@ -17,7 +17,7 @@ pub struct Event {
     pub word: u32,
 }
 
-#[derive(Drop)]
+#[derive(Clone, Copy)]
 pub struct Answer {
     pub number: u32,
     pub word: u32,
@@ -25,20 +25,20 @@ pub struct Answer {
 }
 
 // What a delivery leaves: the cell that the message is for, the kind of the reply that stands in the slot (free: none), the answer.
-#[derive(Drop)]
+#[derive(Clone, Copy)]
 pub struct Arrival {
     pub cell: Cell,
     pub reply: MessageKind,
     pub answer: Answer,
 }
 
-#[derive(Drop)]
+#[derive(Clone, Copy)]
 pub struct Stepped {
     pub state: State,
     pub answer: Answer,
 }
 
-#[derive(Drop)]
+#[derive(Clone, Copy)]
 pub struct Batched {
     pub number: u32,
     pub state: State,

@@ -1,4 +1,6 @@
 // The types of the model, the methods of a cell, and the empty things; the rules are in specs/.
+#![tactic(auto)]
+
 pub mod cells;
 pub mod choices;
 pub mod empties;

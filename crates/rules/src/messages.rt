@@ -2,7 +2,7 @@
 use crate::numbers::{Count, Serial};
 
 // Free is the kind of an empty slot.
-#[derive(Drop)]
+#[derive(Clone, Copy)]
 pub enum MessageKind {
     Free,
     Tokens,
@@ -11,7 +11,7 @@ pub enum MessageKind {
 }
 
 // `full` is the data mark.
-#[derive(Drop)]
+#[derive(Clone, Copy)]
 pub struct Message {
     pub kind: MessageKind,
     pub line: u8,

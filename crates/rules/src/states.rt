@@ -4,7 +4,7 @@ use crate::messages::Message;
 use crate::numbers::{Count, Serial};
 
 // C caches, L lines, N tokens for each line.
-#[derive(Drop)]
+#[derive(Clone, Copy)]
 pub struct Sizes {
     pub caches: u8,
     pub lines: u8,
@@ -12,7 +12,7 @@ pub struct Sizes {
 }
 
 // Cell line * 9 + node is the node's cell of the line; the memory is node `caches`.
-#[derive(Drop)]
+#[derive(Clone, Copy)]
 pub struct State {
     pub sizes: Sizes,
     pub serials: [Serial; 16],

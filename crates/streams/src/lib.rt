@@ -1,5 +1,7 @@
 // Input, output and errors of the programs: what they do with bytes is in crates with no input or output. No contract can
 // say what is read or written.
+#![tactic(auto)]
+
 mod reading;
 mod telling;
 mod writing;

@@ -3,7 +3,7 @@ ghost use Rattle.std.specs.Prelude.{◌<◌, length};
 ghost use Rattle.streams.specs.Reads.{Reads};
 
 // How many bytes are held now, whether the input has ended, and whether the read failed.
-#[derive(Drop)]
+#[derive(Clone, Copy)]
 pub struct More {
     pub held: usize,
     pub last: bool,

@@ -8,7 +8,7 @@ use crate::reading::take;
 use crate::sizes::least;
 
 // How far a chunk was read: lines, words put, and the place of the next line.
-#[derive(Drop)]
+#[derive(Clone, Copy)]
 pub struct Parsed {
     pub lines: usize,
     pub words: usize,

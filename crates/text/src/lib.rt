@@ -1,4 +1,6 @@
 // Lines of text are read as numbers. No input or output here.
+#![tactic(auto)]
+
 mod chunks;
 mod nines;
 mod numbers;

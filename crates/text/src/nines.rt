@@ -7,7 +7,7 @@ use crate::numbers::field;
 use crate::reading::{skip, take};
 
 // A line of nine numbers that was read: whether it is one, its numbers (not readable: all zero), and the place of the next line.
-#[derive(Drop)]
+#[derive(Clone, Copy)]
 pub struct Nine {
     pub readable: bool,
     pub words: [u32; 9],

@@ -4,7 +4,7 @@ ghost use Rattle.text.specs.Reading.{is_digit};
 ghost use Rattle.text.specs.Parts.{Runs, Found, Short, one_digit};
 
 // Digits: what they spell, the place past them, and the byte there; at the end of input a line feed.
-#[derive(Drop)]
+#[derive(Clone, Copy)]
 struct Run {
     pub value: u64,
     pub end: usize,
@@ -12,7 +12,7 @@ struct Run {
 }
 
 // A number, the place past its digits, and the byte there; at the end of input a line feed.
-#[derive(Drop)]
+#[derive(Clone, Copy)]
 pub(crate) struct Number {
     pub value: u32,
     pub end: usize,

@@ -8,7 +8,7 @@ use crate::numbers::{field, one_digit, short};
 
 // A line that was read: how many numbers it has, 1 to 8, those numbers and then zeros; not readable: all zero.
 // And the place of the next line.
-#[derive(Drop)]
+#[derive(Clone, Copy)]
 pub struct Taken {
     pub count: usize,
     pub words: [u32; 8],

@@ -1,6 +1,8 @@
 // The program `tokens`: lines of numbers from standard input or one file, an answer to each to standard output. What it is
 // to print is `program` of lines/specs. It reads, lets `trace::turn` answer, and writes; that such turns print no more and
 // no less, however the input arrives, is `arrives` in trace/proofs.
+#![tactic(auto)]
+
 ghost use Rattle.std.specs.Prelude.{◌<◌, ◌≡◌, length};
 ghost use Rattle.tokens.specs.Rooms.{Room};
 
@@ -8,7 +10,7 @@ use streams::{read_more, send, tell};
 use trace::Kept;
 
 // What is kept and held after a turn, and whether another is due.
-#[derive(Drop)]
+#[derive(Clone, Copy)]
 struct Went {
     kept: Kept,
     held: usize,

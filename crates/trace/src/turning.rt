@@ -9,7 +9,7 @@ use lines::{Kept, advance};
 use text::least;
 
 // What is kept after a turn, how many bytes are held at the front, and how many were put for the lines answered.
-#[derive(Drop)]
+#[derive(Clone, Copy)]
 pub struct Turned {
     pub kept: Kept,
     pub held: usize,

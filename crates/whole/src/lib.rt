@@ -1,4 +1,6 @@
 // The whole state: its start, and whether it is well formed.
+#![tactic(auto)]
+
 mod starts;
 mod tallies;
 

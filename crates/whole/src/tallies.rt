@@ -14,14 +14,14 @@ use rules::numbers::{Count, Serial};
 use rules::states::{Sizes, State};
 
 // One line's cells: all fine, and the sum of their tokens.
-#[derive(Drop)]
+#[derive(Clone, Copy)]
 struct LineSum {
     fine: bool,
     tokens: u32,
 }
 
 // All of a pass is fine, and the sum of each line.
-#[derive(Drop)]
+#[derive(Clone, Copy)]
 struct LineSums {
     fine: bool,
     sums: [u32; 16],

@@ -1,4 +1,6 @@
 // Answers and other numbers as lines of text. No input or output here.
+#![tactic(auto)]
+
 mod answers;
 mod decimals;
 mod listing;
