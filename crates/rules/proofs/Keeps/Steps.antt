@@ -58,5 +58,5 @@ step_keeps_well_formed s z h e = well_formed_lem (step_keeps_well z (well h) e)
 -- so does a run, and it keeps the sizes and the lengths of the lists
 pub run_keeps_well : {s : State} → Sized s → Well s → (es : List Event) → Well (run_of s es)
 unfolding run_of
-run_keeps_well z w [] = w
-run_keeps_well {s} z w (e ∷ es) = run_keeps_well (step_keeps_sized s z e) (step_keeps_well z w e) es
+run_keeps_well {s = s} z w [] = w
+run_keeps_well {s = s} z w (e ∷ es) = run_keeps_well {s = (step_of s e).state} (step_keeps_sized s z e) (step_keeps_well z w e) es
