@@ -107,10 +107,10 @@ module _ {s : State} (z : Sized s) (w : Well s) (i : ℕ) (m : Message) (h : Lat
 pub run_late : {s : State} (z : Sized s) (w : Well s) (i : ℕ) (m : Message) → Late s i m → (es : List Event)
     → stays i es (answers_of s es) ≡ true → Late (run_of s es) i m
 unfolding run_of answers_of stays
-run_late z w i m h [] g = h
-run_late {s} z w i m h (e ∷ es) g =
+run_late {s = s} z w i m h [] g = h
+run_late {s = s} z w i m h (e ∷ es) g =
     let b = and_both (not (emptied_by i e (step_of s e).answer)) (stays i es (answers_of (step_of s e).state es)) g in
-    run_late (step_keeps_sized s z e) (step_keeps_well z w e) i m (step_late z w i m h e (not-true _ b.0)) es b.1
+    run_late {s = (step_of s e).state} (step_keeps_sized s z e) (step_keeps_well z w e) i m (step_late z w i m h e (not-true _ b.0)) es b.1
 
 -- the delivery of a late message empties its slot and does nothing else
 late_accepted : (s : State) (e : Event) → Well s → e.amount < 64 → free_at s e.amount ≡ false → given (table_of s e 3) ≡ 0

@@ -1,0 +1,5 @@
+use borrow.Author.Rules.{rules}
+use Rattle.parts.proofs.changes.discarded.Goals as goal
+
+pub returns : goal.returns
+returns c = rw c.answer.ensures

@@ -1,0 +1,8 @@
+use mathlib.Core.Path.{refl}
+use Rattle.parts.specs.Changes.{lost, fits}
+use borrow.Author.Rules.{rules}
+use Rattle.parts.proofs.changes.lost.Goals as goal
+
+pub returns : goal.returns
+unfolding lost fits
+returns c = refl

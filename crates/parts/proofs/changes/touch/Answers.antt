@@ -1,0 +1,7 @@
+use Rattle.parts.specs.Changes.{touched_cell}
+use borrow.Author.Rules.{rules}
+use Rattle.parts.proofs.changes.touch.Goals as goal
+
+pub returns : goal.returns
+unfolding touched_cell
+returns c = rw (c.wish.ensures, c.write-y.ensures, c.either-word.ensures, c.wanted-want.ensures)

@@ -1,0 +1,15 @@
+use Prim.Native.Nat.{◌+◌, ◌-◌}
+use mathlib.Core.Path.{◌≡◌, refl, sym, ap, ◌∙◌}
+use native.Mathlib.Omega.{arith}
+use borrow.Author.Rules.{rules}
+use lib.ListN.{length, drop}
+use Rattle.text.specs.Lines.{passed}
+use Rattle.text.specs.Reading.{unread}
+use Rattle.text.proofs.Lines.{passed_end, passed_more, passed_none}
+use Rattle.text.proofs.reading.skip.Given as goal
+
+abbrev pub invariant-loop-i : goal.invariant-loop-i
+invariant-loop-i l = (l.n ≡ length l.s) × (l.i + passed (drop l.i l.s) ≡ l.from + passed (drop l.from l.s))
+
+abbrev pub decreases-loop-i : goal.decreases-loop-i
+decreases-loop-i l = l.n - l.i
