@@ -1,5 +1,6 @@
 use Rattle.numbers.proofs.Facts.Rows.{own_read, own_write, own_want_read, own_want_write, own_lost_token, own_lost_data, own_lost_ack, own_none}
 use borrow.Author.Rules.{rules}
+use Rattle.std.proofs.Common.{◌≢◌, arith}
 use Rattle.numbers.proofs.refusals.own_refusal.Goals as goal
 
 pub returns-in-0 : goal.returns-in-0
@@ -24,4 +25,12 @@ pub returns-in-9 : goal.returns-in-9
 returns-in-9 c = own_lost_ack _ _ _ _ c.in-9.is c.either-in-9.ensures
 
 pub returns-in_default : goal.returns-in_default
-returns-in_default c = own_none _ _ _ _ c.in_default.not-0 c.in_default.not-1 c.in_default.not-5 c.in_default.not-6 c.in_default.not-7 c.in_default.not-8 c.in_default.not-9
+returns-in_default c =
+    let n0 : c.args.e.kind ≢ 0 = omega arith in
+    let n1 : c.args.e.kind ≢ 1 = omega arith in
+    let n5 : c.args.e.kind ≢ 5 = omega arith in
+    let n6 : c.args.e.kind ≢ 6 = omega arith in
+    let n7 : c.args.e.kind ≢ 7 = omega arith in
+    let n8 : c.args.e.kind ≢ 8 = omega arith in
+    let n9 : c.args.e.kind ≢ 9 = omega arith in
+    own_none _ _ _ _ n0 n1 n5 n6 n7 n8 n9

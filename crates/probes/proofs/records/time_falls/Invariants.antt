@@ -1,0 +1,14 @@
+use Prim.Native.Nat.{◌-◌, ◌%◌, ◌≤◌}
+use mathlib.Core.Path.{◌≡◌, refl, sym, ◌∙◌}
+use native.Mathlib.Omega.{arith}
+use lib.ListN.{length, drop}
+use Rattle.probes.specs.Records.{records_of, falls_after, falls}
+use Rattle.probes.proofs.Chunks.{falls_none, falls_here, falls_more}
+use borrow.Author.Rules.{rules}
+use Rattle.probes.proofs.records.time_falls.Given as goal
+
+abbrev pub invariant-loop-i : goal.invariant-loop-i
+invariant-loop-i l = (l.n ≡ length l.s) × (l.i ≤ l.n) × (l.i % 9 ≡ 0) × (falls_after l.last (records_of (drop l.i l.s)) ≡ falls (records_of l.s))
+
+abbrev pub decreases-loop-i : goal.decreases-loop-i
+decreases-loop-i l = l.n - l.i

@@ -1,0 +1,14 @@
+use Prim.Native.Nat.{◌≤◌, ◌-◌}
+use mathlib.Core.Path.{◌≡◌, refl}
+use native.Mathlib.Omega.{arith}
+use lib.ListN.{length, length-set}
+use Rattle.rules.specs.Fresh.{fresh_cells}
+use Rattle.whole.proofs.Facts.Fresh.{fresh_none, fresh_more}
+use borrow.Author.Rules.{rules}
+use Rattle.whole.proofs.starts.fresh_cells.Given as goal
+
+abbrev pub invariant-loop-line : goal.invariant-loop-line
+invariant-loop-line l = (l.line ≤ l.lines) × (length l.cells ≡ 144) × (l.cells ≡ fresh_cells l.line l.caches l.n)
+
+abbrev pub decreases-loop-line : goal.decreases-loop-line
+decreases-loop-line l = l.lines - l.line

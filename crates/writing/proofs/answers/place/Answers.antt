@@ -1,0 +1,30 @@
+use native.Mathlib.Omega.{arith}
+use Rattle.writing.proofs.Puts.{lengths, puts_answer}
+use borrow.Author.Rules.{rules}
+use Rattle.writing.proofs.answers.place.Goals as goal
+
+pub put_number-p-requires : goal.put_number-p-requires
+put_number-p-requires c =
+    let a = c.args in
+    let l = lengths a.n a.word a.slot in
+    omega arith
+
+pub put_number-q-requires : goal.put_number-q-requires
+put_number-q-requires c =
+    let a = c.args in
+    let l = lengths a.n a.word a.slot in
+    omega arith
+
+pub put_number-requires : goal.put_number-requires
+put_number-requires c =
+    let a = c.args in
+    let l = lengths a.n a.word a.slot in
+    omega arith
+
+pub returns : goal.returns
+returns c =
+    let a = c.args in
+    let x = c.put_number-p in
+    let y = c.put_number-q in
+    let z = c.put_number in
+    puts_answer _ x.new.dst y.new.dst z.new.dst a.at x.result y.result z.result a.n a.word a.slot x.ensures y.ensures z.ensures

@@ -1,0 +1,33 @@
+use mathlib.Core.Path.{◌∙◌}
+use native.Mathlib.Omega.{arith}
+use lib.Seq.{sets}
+use Rattle.writing.specs.Writing.{answer_text}
+use Rattle.writing.proofs.Puts.{length_answer, no_room, is_put}
+use borrow.Author.Rules.{rules}
+use Rattle.writing.proofs.answers.write.Goals as goal
+
+pub returns-then-dst-at : goal.returns-then-dst-at
+returns-then-dst-at c =
+    let a = c.args in
+    let l = length_answer a.number a.word a.slot in
+    no_room _ a.at _ (omega (arith, l))
+
+pub returns-then-dst-at-2 : goal.returns-then-dst-at-2
+returns-then-dst-at-2 c =
+    let a = c.args in
+    let l = length_answer a.number a.word a.slot in
+    no_room _ a.at _ (omega (arith, l))
+
+pub place-requires : goal.place-requires
+place-requires c =
+    let a = c.args in
+    let l = length_answer a.number a.word a.slot in
+    omega arith
+
+pub returns : goal.returns
+returns c =
+    let a = c.args in
+    let l = length_answer a.number a.word a.slot in
+    let t = answer_text a.number a.word a.slot in
+    let w = is_put a.dst.now a.at t (omega arith) in
+    (omega arith, ◌∙◌ {b = sets a.dst.now a.at t} c.place.ensures.1 w.1)

@@ -1,0 +1,23 @@
+use native.Mathlib.Omega.{arith}
+use Rattle.writing.proofs.Rows.{no_line, is_line}
+use borrow.Author.Rules.{rules}
+use Rattle.writing.proofs.listing.line.Goals as goal
+
+pub returns-then-dst-at : goal.returns-then-dst-at
+returns-then-dst-at c =
+    let a = c.args in
+    no_line a.dst.now a.at a.numbers.now (omega arith)
+
+pub returns-then-dst-at-2 : goal.returns-then-dst-at-2
+returns-then-dst-at-2 c =
+    let a = c.args in
+    no_line a.dst.now a.at a.numbers.now (omega arith)
+
+pub place_line-requires : goal.place_line-requires
+place_line-requires c = omega arith
+
+pub returns : goal.returns
+returns c =
+    let a = c.args in
+    let p = c.place_line in
+    is_line a.dst.now a.at a.numbers.now _ _ (omega arith) p.ensures.0 p.ensures.1
