@@ -4,4 +4,4 @@ use Rattle.whole.proofs.starts.fresh.Goals as goal
 
 pub returns : goal.returns
 unfolding fresh_of
-returns c = rw (c.free_message-free.ensures, c.fresh-Cells.ensures)
+returns c = rw (c.free_message-free.ensures, c.fresh_cells-cells.ensures)
