@@ -1,0 +1,7 @@
+use Rattle.rules.specs.Refusals.{backupless}
+use borrow.Author.Rules.{rules}
+use Rattle.renewals.proofs.nines.backupless.Goals as goal
+
+pub returns : goal.returns
+unfolding backupless
+returns c = rw c.lowest.ensures.1
