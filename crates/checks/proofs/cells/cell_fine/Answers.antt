@@ -1,5 +1,4 @@
 use Rattle.rules.specs.WellFormed.{cell_fine}
-use borrow.Author.Rules.{rules}
 use Rattle.checks.proofs.cells.cell_fine.Goals as goal
 
 pub returns-then-within : goal.returns-then-within

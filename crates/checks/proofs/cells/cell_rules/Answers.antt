@@ -1,6 +1,5 @@
 use Rattle.rules.proofs.Laws.Bools.{every_is}
 use Rattle.rules.specs.WellFormed.{cell_rules}
-use borrow.Author.Rules.{rules}
 use Rattle.checks.proofs.cells.cell_rules.Goals as goal
 
 pub returns : goal.returns

@@ -1,7 +1,6 @@
 use Rattle.rules.specs.WellFormed.{message_fine}
 use mathlib.Core.Bool.{◌&&◌}
 use mathlib.Core.Path.{◌∙◌, ap, ap₂, sym}
-use borrow.Author.Rules.{rules}
 use Rattle.checks.proofs.messages.message_fine.Goals as goal
 
 pub returns-in-Free : goal.returns-in-Free

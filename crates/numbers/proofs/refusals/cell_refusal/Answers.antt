@@ -1,6 +1,5 @@
 use Rattle.rules.proofs.Laws.Bools.{told}
 use Rattle.numbers.proofs.Facts.Rows.{cell_none, cell_rows}
-use borrow.Author.Rules.{rules}
 use Rattle.numbers.proofs.refusals.cell_refusal.Goals as goal
 
 pub returns-then-names_more : goal.returns-then-names_more

@@ -1,5 +1,4 @@
 use Rattle.numbers.proofs.Facts.Rows.{own_read, own_write, own_want_read, own_want_write, own_lost_token, own_lost_data, own_lost_ack, own_none}
-use borrow.Author.Rules.{rules}
 use Rattle.std.proofs.Common.{◌≢◌, arith}
 use Rattle.numbers.proofs.refusals.own_refusal.Goals as goal
 

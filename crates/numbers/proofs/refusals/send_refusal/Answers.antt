@@ -1,6 +1,5 @@
 use Rattle.numbers.specs.Rows.{send_refusal}
 use Rattle.rules.specs.Refusals.{table, given}
-use borrow.Author.Rules.{rules}
 use Rattle.numbers.proofs.refusals.send_refusal.Goals as goal
 
 pub returns : goal.returns

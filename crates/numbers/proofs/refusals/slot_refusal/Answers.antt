@@ -1,5 +1,4 @@
 use Rattle.numbers.proofs.Facts.Rows.{slot_row, slot_beyond}
-use borrow.Author.Rules.{rules}
 use Rattle.numbers.proofs.refusals.slot_refusal.Goals as goal
 
 pub returns-then-e-lt64 : goal.returns-then-e-lt64

@@ -1,13 +1,10 @@
 use Rattle.rules.proofs.Facts.Loops.{all_none, all_more}
 use Rattle.numbers.specs.Tags.{absent}
-use Rattle.rules.specs.Tools.{all_to}
 use lib.Dec.{eqb}
 use lib.ListN.{get_or}
 use native.Mathlib.Omega.{arith}
 use mathlib.Core.Bool.{not}
 use mathlib.Core.Path.{◌≡◌, refl}
-use Prim.Native.Nat.{◌-◌, ◌≤◌}
-use borrow.Author.Rules.{rules}
 use Rattle.numbers.proofs.tags.absent.Goals as goal
 
 pub loop-i-init : goal.loop-i-init

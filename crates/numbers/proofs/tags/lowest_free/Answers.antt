@@ -7,8 +7,6 @@ use lib.Dec.{eqb}
 use native.Mathlib.Omega.{arith}
 use mathlib.Core.Path.{◌≡◌, sym}
 use mathlib.Core.Bool.{false}
-use Prim.Native.Nat.{◌-◌, ◌<◌, ◌≤◌, ℕ}
-use borrow.Author.Rules.{rules}
 use Rattle.numbers.proofs.tags.lowest_free.Goals as goal
 
 pub loop-i-init : goal.loop-i-init

@@ -1,4 +1,3 @@
-use borrow.Author.Rules.{rules}
 use Rattle.numbers.proofs.tags.tag.Goals as goal
 
 pub returns-in-Tokens : goal.returns-in-Tokens

@@ -1,11 +1,9 @@
 use Rattle.rules.proofs.Facts.Loops.{table_more}
 use Rattle.numbers.specs.Tags.{slot_tag}
 use Rattle.rules.specs.States.{free_message}
-use lib.ListN.{length, get_or, length-set}
+use lib.ListN.{get_or, length-set}
 use native.Mathlib.Omega.{arith}
 use mathlib.Core.Path.{◌≡◌, refl}
-use Prim.Native.Nat.{◌-◌, ◌<◌, ◌≤◌, ℕ}
-use borrow.Author.Rules.{rules}
 use Rattle.numbers.proofs.tags.tags_of.Goals as goal
 
 pub loop-i-init : goal.loop-i-init

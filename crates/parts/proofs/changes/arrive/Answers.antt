@@ -1,6 +1,5 @@
 use mathlib.Core.Path.{◌∙◌, ap, sym}
 use Rattle.rules.specs.Effects.{arrive}
-use borrow.Author.Rules.{rules}
 use Rattle.parts.proofs.changes.arrive.Goals as goal
 
 pub arrive_tokens-requires : goal.arrive_tokens-requires

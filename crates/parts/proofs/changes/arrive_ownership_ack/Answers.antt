@@ -1,5 +1,4 @@
 use Rattle.rules.specs.Effects.{arrive}
-use borrow.Author.Rules.{rules}
 use Rattle.parts.proofs.changes.arrive_ownership_ack.Goals as goal
 
 pub returns-then-x : goal.returns-then-x

@@ -1,7 +1,6 @@
 use Rattle.rules.proofs.Laws.Bools.{told}
 use Rattle.parts.specs.Changes.{arrive_of}
 use Rattle.parts.proofs.Facts.Changes.{unlost}
-use borrow.Author.Rules.{rules}
 use Rattle.parts.proofs.changes.arrived.Goals as goal
 
 pub arrive-requires : goal.arrive-requires

@@ -1,4 +1,3 @@
-use borrow.Author.Rules.{rules}
 use Rattle.parts.proofs.changes.fill_from.Goals as goal
 
 pub returns-then-m : goal.returns-then-m

@@ -1,6 +1,5 @@
 use mathlib.Core.Path.{refl}
 use Rattle.parts.specs.Changes.{lost, fits}
-use borrow.Author.Rules.{rules}
 use Rattle.parts.proofs.changes.lost.Goals as goal
 
 pub returns : goal.returns

@@ -1,5 +1,4 @@
 use Rattle.parts.proofs.Facts.Changes.{received_of}
-use borrow.Author.Rules.{rules}
 use Rattle.parts.proofs.changes.receive.Goals as goal
 
 pub returns-then-m : goal.returns-then-m

@@ -1,6 +1,5 @@
 use Rattle.rules.proofs.Laws.Bools.{told}
 use Rattle.rules.specs.Effects.{reply_of}
-use borrow.Author.Rules.{rules}
 use Rattle.parts.proofs.changes.reply.Goals as goal
 
 pub returns-then-is_free : goal.returns-then-is_free

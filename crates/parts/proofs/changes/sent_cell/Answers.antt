@@ -1,6 +1,5 @@
 use Rattle.rules.specs.Effects.{sent_cell}
 use borrow.Author.Tests.{eq-eqb, ne_eqb}
-use borrow.Author.Rules.{rules}
 use Rattle.parts.proofs.changes.sent_cell.Goals as goal
 
 pub returns-then-e-eq1 : goal.returns-then-e-eq1

@@ -1,4 +1,3 @@
-use borrow.Author.Rules.{rules}
 use Rattle.parts.proofs.changes.sent_message.Goals as goal
 
 pub returns : goal.returns

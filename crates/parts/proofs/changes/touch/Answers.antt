@@ -1,5 +1,4 @@
 use Rattle.parts.specs.Changes.{touched_cell}
-use borrow.Author.Rules.{rules}
 use Rattle.parts.proofs.changes.touch.Goals as goal
 
 pub returns : goal.returns

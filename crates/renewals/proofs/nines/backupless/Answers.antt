@@ -1,5 +1,4 @@
 use Rattle.rules.specs.Refusals.{backupless}
-use borrow.Author.Rules.{rules}
 use Rattle.renewals.proofs.nines.backupless.Goals as goal
 
 pub returns : goal.returns

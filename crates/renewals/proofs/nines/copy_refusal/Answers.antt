@@ -1,7 +1,6 @@
 use Rattle.renewals.proofs.Words.{copy_kept, nothing_left_lem, backup_left}
 use Rattle.rules.proofs.Laws.Bools.{told}
 use mathlib.Core.Path.{◌∙◌}
-use borrow.Author.Rules.{rules}
 use Rattle.renewals.proofs.nines.copy_refusal.Goals as goal
 
 pub returns-then-backupless : goal.returns-then-backupless

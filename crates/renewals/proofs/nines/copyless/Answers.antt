@@ -1,7 +1,6 @@
 use borrow.Author.Tests.{ne_eqb, eq-eqb}
 use native.Mathlib.Omega.{arith}
 use Rattle.rules.specs.Refusals.{copyless}
-use borrow.Author.Rules.{rules}
 use Rattle.renewals.proofs.nines.copyless.Goals as goal
 
 pub returns-then-lowest-lt9 : goal.returns-then-lowest-lt9

@@ -6,8 +6,6 @@ use Rattle.renewals.specs.Nines.{nth, marked}
 use native.Mathlib.Omega.{arith}
 use mathlib.Core.Path.{◌≡◌, sym}
 use mathlib.Core.Bool.{false}
-use Prim.Native.Nat.{◌-◌, ◌<◌, ◌≤◌, ℕ}
-use borrow.Author.Rules.{rules}
 use Rattle.renewals.proofs.nines.lowest.Goals as goal
 
 pub loop-node-init : goal.loop-node-init

@@ -1,13 +1,7 @@
-use Rattle.rules.proofs.Facts.Loops.{below_suc}
-use Rattle.rules.proofs.Laws.Sums.{first_is, first_all}
-use Rattle.rules.proofs.Laws.Bools.{told}
-use Rattle.rules.specs.Refusals.{lowest}
 use Rattle.renewals.specs.Nines.{nth, marked}
-use native.Mathlib.Omega.{arith}
-use mathlib.Core.Path.{◌≡◌, sym}
+use mathlib.Core.Path.{◌≡◌}
 use mathlib.Core.Bool.{false}
 use Prim.Native.Nat.{◌-◌, ◌<◌, ◌≤◌, ℕ}
-use borrow.Author.Rules.{rules}
 use Rattle.renewals.proofs.nines.lowest.Given as goal
 
 abbrev pub invariant-loop-node : goal.invariant-loop-node

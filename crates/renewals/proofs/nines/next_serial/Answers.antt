@@ -1,7 +1,6 @@
 use borrow.Author.Tests.{lt-ltb, le-ltb}
 use native.Mathlib.Numerals.{add-one}
 use Rattle.rules.specs.Refusals.{next}
-use borrow.Author.Rules.{rules}
 use Rattle.renewals.proofs.nines.next_serial.Goals as goal
 
 pub returns-then-q-lt3 : goal.returns-then-q-lt3

@@ -1,7 +1,6 @@
 use Rattle.numbers.specs.Rows.{from}
 use Rattle.renewals.specs.Nines.{copy_refusal, renewal_refusal}
 use Rattle.rules.specs.Refusals.{table, given}
-use borrow.Author.Rules.{rules}
 use Rattle.renewals.proofs.nines.renewal_refusal.Goals as goal
 
 pub returns : goal.returns

@@ -1,5 +1,4 @@
 use Rattle.rules.specs.Effects.{after_recreation}
-use borrow.Author.Rules.{rules}
 use Rattle.renewals.proofs.nines.renewed.Goals as goal
 
 pub returns-then-chosen : goal.returns-then-chosen

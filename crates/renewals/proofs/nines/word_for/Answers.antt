@@ -1,7 +1,6 @@
 use Rattle.renewals.proofs.Words.{word_owner, word_valid, word_own}
 use Rattle.renewals.specs.Nines.{nth}
 use mathlib.Core.Path.{◌∙◌}
-use borrow.Author.Rules.{rules}
 use Rattle.renewals.proofs.nines.word_for.Goals as goal
 
 pub returns-then-owner-lt9 : goal.returns-then-owner-lt9

@@ -1,9 +1,8 @@
-use Prim.Native.Nat.{min, ◌-◌, ◌*◌, ◌≤◌, ◌<◌}
-use mathlib.Core.Path.{◌≡◌, refl, ap, ◌∙◌}
+use Prim.Native.Nat.{min, ◌<◌}
+use mathlib.Core.Path.{refl, ap, ◌∙◌}
 use native.Mathlib.Omega.{arith}
 use lib.ListN.{length}
-use Rattle.text.specs.Chunks.{room}
-use Rattle.text.proofs.Events.{Going, going_start, both_less, going_on, going_stop}
+use Rattle.text.proofs.Events.{going_start, both_less, going_on, going_stop}
 use borrow.Author.Rules.{rules}
 use Rattle.text.proofs.chunks.parse.Goals as goal
 

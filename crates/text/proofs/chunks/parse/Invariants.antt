@@ -1,10 +1,8 @@
-use Prim.Native.Nat.{min, ◌-◌, ◌*◌, ◌≤◌, ◌<◌}
-use mathlib.Core.Path.{◌≡◌, refl, ap, ◌∙◌}
-use native.Mathlib.Omega.{arith}
+use Prim.Native.Nat.{◌-◌, ◌*◌, ◌≤◌}
+use mathlib.Core.Path.{◌≡◌}
 use lib.ListN.{length}
 use Rattle.text.specs.Chunks.{room}
-use Rattle.text.proofs.Events.{Going, going_start, both_less, going_on, going_stop}
-use borrow.Author.Rules.{rules}
+use Rattle.text.proofs.Events.{Going}
 use Rattle.text.proofs.chunks.parse.Given as goal
 
 abbrev pub invariant-loop-lines : goal.invariant-loop-lines

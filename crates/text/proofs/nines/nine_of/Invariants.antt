@@ -1,12 +1,8 @@
 use Prim.Native.Nat.{◌+◌, ◌-◌, ◌≤◌}
-use mathlib.Core.Path.{◌≡◌, sym, ◌∙◌}
+use mathlib.Core.Path.{◌≡◌}
 use mathlib.Core.List.{◌∷◌}
-use native.Mathlib.Omega.{arith}
 use lib.ListN.{length, drop}
 use lib.Seq.{sets}
-use Rattle.text.proofs.Stores.{sets_all}
-use Rattle.text.proofs.NineFields.{front, front_step}
-use borrow.Author.Rules.{rules}
 use Rattle.text.proofs.nines.nine_of.Given as goal
 
 abbrev pub invariant-loop-k : goal.invariant-loop-k

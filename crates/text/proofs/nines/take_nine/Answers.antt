@@ -1,7 +1,6 @@
 use mathlib.Core.Path.{◌∙◌}
 use native.Mathlib.Omega.{arith}
 use Rattle.text.proofs.NineFields.{nine_none, nine_end, tab_within, nine_eight, nine_other}
-use borrow.Author.Rules.{rules}
 use Rattle.text.proofs.nines.take_nine.Goals as goal
 
 pub returns-then-end-from : goal.returns-then-end-from

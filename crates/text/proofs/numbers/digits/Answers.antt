@@ -1,11 +1,7 @@
-use Prim.Native.Nat.{◌-◌, ◌<◌}
 use mathlib.Core.Bool.{true≢false}
-use mathlib.Core.Path.{◌≡◌, refl, sym, ◌∙◌}
+use mathlib.Core.Path.{refl, sym, ◌∙◌}
 use native.Mathlib.Omega.{arith}
-use borrow.Author.Rules.{rules}
-use borrow.Author.Tests.{not-true, not-false}
-use lib.ListN.{length, get_or}
-use Rattle.text.specs.Parts.{Digits}
+use lib.ListN.{get_or}
 use Rattle.text.proofs.Lines.{byte_in, byte_out}
 use Rattle.text.proofs.Bools.{digit_in}
 use Rattle.text.proofs.Runs.{digits_none, digits_more}

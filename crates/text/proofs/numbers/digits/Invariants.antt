@@ -1,14 +1,7 @@
 use Prim.Native.Nat.{◌-◌, ◌<◌}
-use mathlib.Core.Bool.{true≢false}
-use mathlib.Core.Path.{◌≡◌, refl, sym, ◌∙◌}
-use native.Mathlib.Omega.{arith}
-use borrow.Author.Rules.{rules}
-use borrow.Author.Tests.{not-true, not-false}
-use lib.ListN.{length, get_or}
+use mathlib.Core.Path.{◌≡◌}
+use lib.ListN.{length}
 use Rattle.text.specs.Parts.{Digits}
-use Rattle.text.proofs.Lines.{byte_in, byte_out}
-use Rattle.text.proofs.Bools.{digit_in}
-use Rattle.text.proofs.Runs.{digits_none, digits_more}
 use Rattle.text.proofs.numbers.digits.Given as goal
 
 abbrev pub invariant-loop-i : goal.invariant-loop-i

@@ -1,5 +1,4 @@
 use native.Mathlib.Omega.{arith}
-use borrow.Author.Rules.{rules}
 use Rattle.text.proofs.Runs.{within, found_large, found_zero, found_run}
 use Rattle.text.proofs.numbers.field.Goals as goal
 

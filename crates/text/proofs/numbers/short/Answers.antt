@@ -1,9 +1,7 @@
 use mathlib.Core.Path.{refl, sym, ◌∙◌}
 use native.Mathlib.Omega.{arith}
-use borrow.Author.Tests.{not-false}
 use lib.ListN.{get_or}
 use Rattle.text.proofs.Bools.{digit_in}
-use borrow.Author.Rules.{rules}
 use Rattle.text.proofs.numbers.short.Goals as goal
 
 pub returns-then-s-tab : goal.returns-then-s-tab

@@ -1,7 +1,6 @@
 use mathlib.Core.Path.{◌∙◌}
 use native.Mathlib.Omega.{arith}
 use Rattle.text.proofs.Takes.{ends_none, ends_here, goes_on}
-use borrow.Author.Rules.{rules}
 use Rattle.text.proofs.reading.finish.Goals as goal
 
 pub returns-then-s-end : goal.returns-then-s-end

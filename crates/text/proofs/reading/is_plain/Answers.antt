@@ -1,9 +1,7 @@
-use Prim.Native.Nat.{◌-◌, ◌≤◌}
 use mathlib.Core.Path.{◌≡◌, refl}
 use native.Mathlib.Omega.{arith}
 use native.Mathlib.Numerals.{add-one}
 use Rattle.text.specs.Parts.{tabbed, plain_line}
-use borrow.Author.Rules.{rules}
 use Rattle.text.proofs.reading.is_plain.Goals as goal
 
 pub loop-k-init : goal.loop-k-init

@@ -1,9 +1,6 @@
 use Prim.Native.Nat.{◌-◌, ◌≤◌}
-use mathlib.Core.Path.{◌≡◌, refl}
-use native.Mathlib.Omega.{arith}
-use native.Mathlib.Numerals.{add-one}
-use Rattle.text.specs.Parts.{tabbed, plain_line}
-use borrow.Author.Rules.{rules}
+use mathlib.Core.Path.{◌≡◌}
+use Rattle.text.specs.Parts.{tabbed}
 use Rattle.text.proofs.reading.is_plain.Given as goal
 
 abbrev pub invariant-loop-k : goal.invariant-loop-k

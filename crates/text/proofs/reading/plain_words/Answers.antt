@@ -1,9 +1,7 @@
-use Prim.Native.Nat.{◌-◌, ◌≤◌}
 use mathlib.Core.Path.{◌≡◌, refl}
 use native.Mathlib.Omega.{arith}
 use native.Mathlib.Numerals.{add-one}
 use Rattle.text.specs.Parts.{words_to}
-use borrow.Author.Rules.{rules}
 use Rattle.text.proofs.reading.plain_words.Goals as goal
 
 pub loop-k-init : goal.loop-k-init

@@ -1,9 +1,6 @@
 use Prim.Native.Nat.{◌-◌, ◌≤◌}
-use mathlib.Core.Path.{◌≡◌, refl}
-use native.Mathlib.Omega.{arith}
-use native.Mathlib.Numerals.{add-one}
+use mathlib.Core.Path.{◌≡◌}
 use Rattle.text.specs.Parts.{words_to}
-use borrow.Author.Rules.{rules}
 use Rattle.text.proofs.reading.plain_words.Given as goal
 
 abbrev pub invariant-loop-k : goal.invariant-loop-k

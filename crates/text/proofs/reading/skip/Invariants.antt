@@ -1,11 +1,7 @@
 use Prim.Native.Nat.{◌+◌, ◌-◌}
-use mathlib.Core.Path.{◌≡◌, refl, sym, ap, ◌∙◌}
-use native.Mathlib.Omega.{arith}
-use borrow.Author.Rules.{rules}
+use mathlib.Core.Path.{◌≡◌}
 use lib.ListN.{length, drop}
 use Rattle.text.specs.Lines.{passed}
-use Rattle.text.specs.Reading.{unread}
-use Rattle.text.proofs.Lines.{passed_end, passed_more, passed_none}
 use Rattle.text.proofs.reading.skip.Given as goal
 
 abbrev pub invariant-loop-i : goal.invariant-loop-i

@@ -3,7 +3,6 @@ use native.Mathlib.Omega.{arith}
 use Rattle.text.proofs.Runs.{found_end}
 use Rattle.text.proofs.Takes.{left_start, left_none}
 use Rattle.text.proofs.Plain.{plain_taken}
-use borrow.Author.Rules.{rules}
 use Rattle.text.proofs.reading.take.Goals as goal
 
 pub returns-then-s-from : goal.returns-then-s-from

@@ -1,8 +1,7 @@
-use Prim.Native.Nat.{◌-◌, ◌≤◌}
-use mathlib.Core.Path.{◌≡◌, refl, ◌∙◌}
+use mathlib.Core.Path.{refl, ◌∙◌}
 use native.Mathlib.Omega.{arith}
-use lib.ListN.{length, length-set}
-use Rattle.text.proofs.Takes.{Left, left_start, left_over, left_none, left_tab, left_end, left_short}
+use lib.ListN.{length-set}
+use Rattle.text.proofs.Takes.{left_start, left_over, left_none, left_tab, left_end, left_short}
 use borrow.Author.Rules.{rules}
 use Rattle.text.proofs.reading.take_fields.Goals as goal
 

@@ -1,9 +1,7 @@
 use Prim.Native.Nat.{◌-◌, ◌≤◌}
-use mathlib.Core.Path.{◌≡◌, refl, ◌∙◌}
-use native.Mathlib.Omega.{arith}
-use lib.ListN.{length, length-set}
-use Rattle.text.proofs.Takes.{Left, left_start, left_over, left_none, left_tab, left_end, left_short}
-use borrow.Author.Rules.{rules}
+use mathlib.Core.Path.{◌≡◌}
+use lib.ListN.{length}
+use Rattle.text.proofs.Takes.{Left}
 use Rattle.text.proofs.reading.take_fields.Given as goal
 
 abbrev pub invariant-loop-count : goal.invariant-loop-count

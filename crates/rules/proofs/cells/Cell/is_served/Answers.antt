@@ -1,4 +1,3 @@
-use borrow.Author.Rules.{rules}
 use Rattle.rules.proofs.cells.Cell.is_served.Goals as goal
 
 pub returns-in-Nothing : goal.returns-in-Nothing

@@ -1,6 +1,5 @@
 use Rattle.rules.specs.Cells.{take_fitting}
 use borrow.Author.Tests.{lt-ltb, le-ltb}
-use borrow.Author.Rules.{rules}
 use Rattle.rules.proofs.cells.Cell.take.Goals as goal
 
 pub returns-then-had-amount-lt256 : goal.returns-then-had-amount-lt256

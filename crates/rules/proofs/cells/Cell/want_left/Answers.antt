@@ -1,6 +1,5 @@
 use Rattle.rules.specs.Cells.{want_after}
 use mathlib.Core.Path.{sym, ◌∙◌}
-use borrow.Author.Rules.{rules}
 use Rattle.rules.proofs.cells.Cell.want_left.Goals as goal
 
 pub returns-then-is_served : goal.returns-then-is_served
