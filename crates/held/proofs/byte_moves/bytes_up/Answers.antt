@@ -1,6 +1,5 @@
 use native.Mathlib.Omega.{arith}
 use Rattle.held.proofs.Copies.{none_moved, some_moved}
-use borrow.Author.Rules.{rules}
 use Rattle.held.proofs.byte_moves.bytes_up.Goals as goal
 
 pub returns-then-len-from : goal.returns-then-len-from

@@ -1,7 +1,5 @@
 use Prim.Native.Nat.{◌-◌, ◌≤◌}
-use native.Mathlib.Omega.{arith}
-use Rattle.held.proofs.Copies.{Copying, copying_start, copying_more, copying_end}
-use borrow.Author.Rules.{rules}
+use Rattle.held.proofs.Copies.{Copying}
 use Rattle.held.proofs.byte_moves.copy_bytes.Given as goal
 
 abbrev pub invariant-loop-i : goal.invariant-loop-i

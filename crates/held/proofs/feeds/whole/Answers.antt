@@ -1,11 +1,8 @@
-use Prim.Native.Nat.{◌≤◌}
 use mathlib.Core.Path.{◌≡◌, sym, ap, ◌∙◌}
 use native.Mathlib.Omega.{arith}
-use lib.ListN.{length, take}
 use lib.Seq.{take-length}
 use Rattle.held.specs.Wholes.{whole_of}
 use Rattle.held.proofs.Feeding.{ends_whole, one_less, none_whole}
-use borrow.Author.Rules.{rules}
 use Rattle.held.proofs.feeds.whole.Goals as goal
 
 pub loop-i-init : goal.loop-i-init

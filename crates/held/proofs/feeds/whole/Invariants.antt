@@ -1,11 +1,7 @@
 use Prim.Native.Nat.{◌≤◌}
-use mathlib.Core.Path.{◌≡◌, sym, ap, ◌∙◌}
-use native.Mathlib.Omega.{arith}
+use mathlib.Core.Path.{◌≡◌}
 use lib.ListN.{length, take}
-use lib.Seq.{take-length}
 use Rattle.held.specs.Wholes.{whole_of}
-use Rattle.held.proofs.Feeding.{ends_whole, one_less, none_whole}
-use borrow.Author.Rules.{rules}
 use Rattle.held.proofs.feeds.whole.Given as goal
 
 abbrev pub invariant-loop-i : goal.invariant-loop-i

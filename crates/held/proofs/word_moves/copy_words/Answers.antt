@@ -1,7 +1,5 @@
-use Prim.Native.Nat.{◌-◌, ◌≤◌}
 use native.Mathlib.Omega.{arith}
-use Rattle.held.proofs.Copies.{Copying, copying_start, copying_more, copying_end}
-use borrow.Author.Rules.{rules}
+use Rattle.held.proofs.Copies.{copying_start, copying_more, copying_end}
 use Rattle.held.proofs.word_moves.copy_words.Goals as goal
 
 pub loop-i-init : goal.loop-i-init

@@ -1,5 +1,4 @@
 use Rattle.model.proofs.Facts.Batches.{batch_20, batch_21, batch_ran}
-use borrow.Author.Rules.{rules}
 use Rattle.model.proofs.steps.batch.Goals as goal
 
 pub returns-then-events-ne0 : goal.returns-then-events-ne0

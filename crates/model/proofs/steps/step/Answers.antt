@@ -1,5 +1,4 @@
 use Rattle.model.proofs.Facts.Batches.{step_ran}
-use borrow.Author.Rules.{rules}
 use Rattle.model.proofs.steps.step.Goals as goal
 
 pub returns : goal.returns

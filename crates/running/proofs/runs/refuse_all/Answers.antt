@@ -1,13 +1,8 @@
 use lib.ListN.{length-set}
 use Rattle.running.proofs.Facts.Running.{refuse_begins, refuse_more, refuse_ends}
-use Rattle.rules.specs.Runs.{words_of}
-use Rattle.rules.specs.Effects.{answer}
-use lib.Seq.{sets}
-use lib.ListN.{length, replicate}
-use mathlib.Core.Path.{◌≡◌, refl, ◌∙◌, ap}
+use lib.ListN.{length}
+use mathlib.Core.Path.{refl, ◌∙◌, ap}
 use native.Mathlib.Omega.{arith}
-use Prim.Native.Nat.{◌-◌, ◌≤◌, ◌*◌}
-use borrow.Author.Rules.{rules}
 use Rattle.running.proofs.runs.refuse_all.Goals as goal
 
 pub loop-i-init : goal.loop-i-init

@@ -1,13 +1,9 @@
-use lib.ListN.{length-set}
-use Rattle.running.proofs.Facts.Running.{refuse_begins, refuse_more, refuse_ends}
 use Rattle.rules.specs.Runs.{words_of}
 use Rattle.rules.specs.Effects.{answer}
 use lib.Seq.{sets}
 use lib.ListN.{length, replicate}
-use mathlib.Core.Path.{◌≡◌, refl, ◌∙◌, ap}
-use native.Mathlib.Omega.{arith}
+use mathlib.Core.Path.{◌≡◌}
 use Prim.Native.Nat.{◌-◌, ◌≤◌, ◌*◌}
-use borrow.Author.Rules.{rules}
 use Rattle.running.proofs.runs.refuse_all.Given as goal
 
 abbrev pub invariant-loop-i : goal.invariant-loop-i

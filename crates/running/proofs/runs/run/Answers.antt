@@ -1,6 +1,5 @@
 use Rattle.rules.proofs.Laws.Bools.{told}
 use Rattle.running.proofs.Facts.Ill.{ill_ran}
-use borrow.Author.Rules.{rules}
 use Rattle.running.proofs.runs.run.Goals as goal
 
 pub turns-requires : goal.turns-requires

@@ -1,6 +1,5 @@
 use lib.ListN.{length-set}
 use native.Mathlib.Omega.{arith}
-use borrow.Author.Rules.{rules}
 use Rattle.running.proofs.turns.put.Goals as goal
 
 pub bounds-answers-at-2 : goal.bounds-answers-at-2

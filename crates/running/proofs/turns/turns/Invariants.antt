@@ -1,26 +1,13 @@
-use Rattle.running.proofs.Facts.Places.{cell_fits, mapped_long}
-use lib.ListN.{length, get_or, length-set, drop}
+use lib.ListN.{length, get_or}
 use lib.Dec.{eqb}
-use mathlib.Core.Bool.{false, ◌||◌}
-use mathlib.Core.Path.{◌≡◌, refl, ◌∙◌, ap}
-use native.Mathlib.Omega.{arith}
-use Prim.Native.Nat.{ℕ, ◌-◌, ◌≤◌, ◌<◌, ◌*◌, ◌+◌}
-use borrow.Author.Tests.{eq-eqb, ne_eqb}
+use mathlib.Core.Path.{◌≡◌}
+use Prim.Native.Nat.{ℕ, ◌-◌, ◌≤◌, ◌<◌, ◌+◌}
 use Rattle.rules.specs.Tools.{fill_to}
 use Rattle.rules.specs.Cells.{zero_cell}
 use Rattle.rules.specs.States.{with_cells}
-use Rattle.rules.specs.Refusals.{slotted, sending}
 use Rattle.rules.specs.Effects.{after_recreation}
-use Rattle.rules.specs.Runs.{event_of}
 use Rattle.renewals.specs.Nines.{nth}
-use Rattle.rules.proofs.Facts.Loops.{fill_none, table_more}
-use Rattle.running.proofs.Facts.Searches.{slot_near}
-use Rattle.running.proofs.Facts.Slots.{slot_refused, slot_turn}
-use Rattle.running.proofs.Facts.Cells.{cell_refused, touch_turn}
-use Rattle.running.proofs.Facts.Sends.{slot_found, send_turn, send_refused}
-use Rattle.running.proofs.Facts.Timeouts.{renewal_refused, renewal_turn, fill_cells}
-use Rattle.running.proofs.Facts.Running.{Running, begins, goes_on, ends, event_part}
-use borrow.Author.Rules.{rules}
+use Rattle.running.proofs.Facts.Running.{Running}
 use Rattle.running.proofs.turns.turns.Given as goal
 
 abbrev pub invariant-loop-from : goal.invariant-loop-from

@@ -1,5 +1,4 @@
 use Rattle.rules.specs.Fresh.{fresh as fresh_of}
-use borrow.Author.Rules.{rules}
 use Rattle.whole.proofs.starts.fresh.Goals as goal
 
 pub returns : goal.returns

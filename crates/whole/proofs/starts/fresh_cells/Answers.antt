@@ -1,8 +1,6 @@
-use Prim.Native.Nat.{◌≤◌, ◌-◌}
 use mathlib.Core.Path.{◌≡◌, refl}
 use native.Mathlib.Omega.{arith}
-use lib.ListN.{length, length-set}
-use Rattle.rules.specs.Fresh.{fresh_cells}
+use lib.ListN.{length-set}
 use Rattle.whole.proofs.Facts.Fresh.{fresh_none, fresh_more}
 use borrow.Author.Rules.{rules}
 use Rattle.whole.proofs.starts.fresh_cells.Goals as goal

@@ -1,10 +1,7 @@
 use Prim.Native.Nat.{◌≤◌, ◌-◌}
-use mathlib.Core.Path.{◌≡◌, refl}
-use native.Mathlib.Omega.{arith}
-use lib.ListN.{length, length-set}
+use mathlib.Core.Path.{◌≡◌}
+use lib.ListN.{length}
 use Rattle.rules.specs.Fresh.{fresh_cells}
-use Rattle.whole.proofs.Facts.Fresh.{fresh_none, fresh_more}
-use borrow.Author.Rules.{rules}
 use Rattle.whole.proofs.starts.fresh_cells.Given as goal
 
 abbrev pub invariant-loop-line : goal.invariant-loop-line

@@ -1,6 +1,5 @@
 use mathlib.Core.Path.{ap, ◌∙◌}
 use Rattle.rules.specs.Cells.{recreated}
-use borrow.Author.Rules.{rules}
 use Rattle.whole.proofs.starts.memory_cell.Goals as goal
 
 pub returns : goal.returns

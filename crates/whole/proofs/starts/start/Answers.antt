@@ -1,6 +1,5 @@
 use Rattle.whole.proofs.Facts.Fresh.{start_sizes, start_is}
 use native.Mathlib.Omega.{arith}
-use Prim.Native.Nat.{◌≤◌}
 use Rattle.whole.proofs.starts.start.Goals as goal
 
 pub overflow_cast-c : goal.overflow_cast-c

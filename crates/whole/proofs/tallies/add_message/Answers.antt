@@ -1,7 +1,6 @@
 use Rattle.whole.proofs.Facts.Tables.{message_adds, message_adds_few, message_adds_none}
 use lib.ListN.{get_or}
 use native.Mathlib.Omega.{arith}
-use borrow.Author.Rules.{rules}
 use Rattle.whole.proofs.tallies.add_message.Goals as goal
 
 pub overflow_add-next : goal.overflow_add-next

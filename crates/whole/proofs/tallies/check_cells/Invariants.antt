@@ -1,12 +1,8 @@
-use Rattle.whole.proofs.Facts.Tables.{line_checked}
-use Rattle.rules.proofs.Facts.Loops.{all_more, all_none, table_more}
 use Rattle.rules.specs.WellFormed.{held, in_cells, line_fine}
 use Rattle.rules.specs.Tools.{all_to}
-use lib.ListN.{get_or, length, length-set}
-use native.Mathlib.Omega.{arith}
-use mathlib.Core.Path.{◌≡◌, refl}
+use lib.ListN.{get_or, length}
+use mathlib.Core.Path.{◌≡◌}
 use Prim.Native.Nat.{◌-◌, ◌<◌, ◌≤◌, ℕ}
-use borrow.Author.Rules.{rules}
 use Rattle.whole.proofs.tallies.check_cells.Given as goal
 
 abbrev pub invariant-loop-line : goal.invariant-loop-line

@@ -1,12 +1,9 @@
-use Rattle.rules.proofs.Facts.Loops.{all_more, all_none, sum_more, sum_none}
 use Rattle.rules.specs.WellFormed.{held, cell_fine}
 use Rattle.rules.specs.Tools.{all_to, sum_to}
 use Rattle.rules.specs.Cells.{zero_cell}
 use lib.ListN.{get_or}
-use native.Mathlib.Omega.{arith}
-use mathlib.Core.Path.{◌≡◌, refl}
+use mathlib.Core.Path.{◌≡◌}
 use Prim.Native.Nat.{◌*◌, ◌-◌, ◌≤◌}
-use borrow.Author.Rules.{rules}
 use Rattle.whole.proofs.tallies.check_line.Given as goal
 
 abbrev pub invariant-loop-node : goal.invariant-loop-node

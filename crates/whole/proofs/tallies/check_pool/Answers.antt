@@ -1,14 +1,10 @@
-use Prim.Native.Nat.{◌*◌, ◌+◌, ◌-◌, ◌<◌, ◌≤◌, ℕ}
 use Rattle.rules.proofs.Facts.Loops.{all_more, all_none, sum_none, sum_onto}
 use Rattle.rules.specs.States.{serial_at, slot_at}
 use Rattle.rules.specs.WellFormed.{borne}
-use Rattle.rules.specs.Tools.{all_to, sum_to}
 use Rattle.rules.specs.WellFormed.{counted, in_messages}
 use Rattle.rules.specs.WellFormed.{slot_fine}
-use lib.ListN.{get_or}
 use mathlib.Core.Path.{◌≡◌}
 use native.Mathlib.Omega.{arith}
-use borrow.Author.Rules.{rules}
 use Rattle.whole.proofs.tallies.check_pool.Goals as goal
 
 pub loop-i-init : goal.loop-i-init

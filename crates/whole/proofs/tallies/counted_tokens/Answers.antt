@@ -1,7 +1,6 @@
 use Rattle.rules.proofs.Laws.Bools.{told}
 use Rattle.whole.proofs.Facts.Tables.{counted_no, counted_yes}
 use native.Mathlib.Omega.{arith}
-use borrow.Author.Rules.{rules}
 use Rattle.whole.proofs.tallies.counted_tokens.Goals as goal
 
 pub returns-then-bears : goal.returns-then-bears

@@ -1,11 +1,7 @@
 use Prim.Native.Nat.{◌-◌, ◌≤◌}
-use Rattle.rules.proofs.Facts.Loops.{all_more, all_none}
-use Rattle.rules.specs.States.{serial_at}
 use Rattle.rules.specs.Tools.{all_to}
 use Rattle.rules.specs.WellFormed.{serial_fine_at}
 use mathlib.Core.Path.{◌≡◌}
-use native.Mathlib.Omega.{arith}
-use borrow.Author.Rules.{rules}
 use Rattle.whole.proofs.tallies.serials_fine.Given as goal
 
 abbrev pub invariant-loop-line : goal.invariant-loop-line

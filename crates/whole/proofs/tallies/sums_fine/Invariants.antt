@@ -1,11 +1,8 @@
 use Prim.Native.Nat.{◌-◌, ◌≤◌}
-use Rattle.rules.proofs.Facts.Loops.{all_more, all_none}
 use Rattle.rules.specs.Tools.{all_to}
 use lib.Dec.{leb}
 use lib.ListN.{get_or}
-use mathlib.Core.Path.{◌≡◌, refl}
-use native.Mathlib.Omega.{arith}
-use borrow.Author.Rules.{rules}
+use mathlib.Core.Path.{◌≡◌}
 use Rattle.whole.proofs.tallies.sums_fine.Given as goal
 
 abbrev pub invariant-loop-i : goal.invariant-loop-i

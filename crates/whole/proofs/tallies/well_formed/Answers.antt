@@ -1,5 +1,4 @@
 use Rattle.whole.proofs.Facts.Checked.{all_checked}
-use borrow.Author.Rules.{rules}
 use Rattle.whole.proofs.tallies.well_formed.Goals as goal
 
 pub returns : goal.returns
