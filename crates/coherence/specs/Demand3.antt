@@ -1,7 +1,7 @@
 -- Demand 3, of a start of c caches, l lines and n tokens and a list of events. Assumes nothing.
 use Rattle.std.specs.Prelude.{ℕ, ◌≤◌, ◌<◌, ◌≡◌, ◌≢◌, true, false, List, ◌∷◌, ◌++◌, length}
 use Rattle.coherence.specs.Types.{State, Event}
-use Rattle.coherence.specs.Histories.{answers, state_at, answer_at_lem, last_write}
+use Rattle.coherence.specs.Histories.{answers, state_at, answer_at, last_write}
 use Rattle.rules.specs.States.{cell_at, slot_at, serial_at, bears}
 use Rattle.rules.specs.WellFormed.{well_formed}
 use Rattle.rules.specs.Cells.{able_to_write}
@@ -18,7 +18,7 @@ NoneInFlight s line = (i : ℕ) → i < 64 → bears line (serial_at s line) (sl
 module _ (c l n : ℕ) (es : List Event) where
   -- the number is the answer to none of the events
   abbrev pub Never : ℕ → Type 0
-  Never number = (i : ℕ) → i < length es → (answer_at_lem c l n es i).number ≢ number
+  Never number = (i : ℕ) → i < length es → (answer_at c l n es i).number ≢ number
 
   -- every state of the run is well formed, and number 1 is never given
   abbrev pub StaysWellFormed : Type 0
@@ -30,8 +30,8 @@ module _ (c l n : ℕ) (es : List Event) where
       (before : List Event) (e : Event) (rest : List Event)
       → es ≡ before ++ (e ∷ rest)
       → reading e.kind ≡ true
-      → (answer_at_lem c l n es (length before)).number ≡ 0
-      → (answer_at_lem c l n es (length before)).word ≡ last_write before (answers c l n es) e.line
+      → (answer_at c l n es (length before)).number ≡ 0
+      → (answer_at c l n es (length before)).word ≡ last_write before (answers c l n es) e.line
 
   -- in every state of the run, if a node is able to write a line, no other node and no message of the line's serial has a token of it
   abbrev pub WriterAlone : Type 0

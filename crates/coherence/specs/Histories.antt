@@ -24,8 +24,8 @@ abbrev pub state_at : ℕ → ℕ → ℕ → List Event → ℕ → State
 state_at c l n es i = after c l n (take i es)
 
 -- the answer to event i, counted from 0
-abbrev pub answer_at_lem : ℕ → ℕ → ℕ → List Event → ℕ → Answer
-answer_at_lem c l n es i = get_or (answers c l n es) i (answer 0 0 64)
+abbrev pub answer_at : ℕ → ℕ → ℕ → List Event → ℕ → Answer
+answer_at c l n es i = get_or (answers c l n es) i (answer 0 0 64)
 
 -- the event was an accepted write to the line
 abbrev pub wrote : Event → Answer → ℕ → Bool

@@ -19,7 +19,7 @@ use Rattle.lanes.specs.Parts.{part_of}
 use Rattle.lanes.specs.Arrivals.{Way, fresh, Ended, Stopped, Ready, has, ends, Joining, first_comes, second_comes, turn, first_stops, second_stops, both_end}
 use Rattle.lanes.proofs.Prefixes.{onto}
 use Rattle.lanes.proofs.Leaving.{taken_in}
-use Rattle.lanes.proofs.Ways.{to_come, still_gives, all_lines_lem, Sound, comes}
+use Rattle.lanes.proofs.Ways.{to_come, still_gives, all_lines, Sound, comes}
 
 -- what is told for what two files give, after so many lines of each
 abbrev tells : Read → ℕ → Read → ℕ → Option Refused
@@ -108,16 +108,16 @@ ready_rest w (ends e) z = ended_rest w e
 -- what is printed and told is what both files still give
 record Gives (a b : Way) (out : List (List ℕ)) (t : Option Refused) : Type 0 where
   prints_all : out ≡ printed_for (still_gives a) (still_gives b)
-  tells_end : t ≡ tells (still_gives a) (all_lines_lem a) (still_gives b) (all_lines_lem b)
+  tells_end : t ≡ tells (still_gives a) (all_lines a) (still_gives b) (all_lines b)
 
 -- a file whose next line is refused gives no record
-stopped_ahead : (w : Way) → Stopped w → Sound w → (still_gives w ≡ stopped w.number w.time) × (all_lines_lem w ≡ w.lines)
+stopped_ahead : (w : Way) → Stopped w → Sound w → (still_gives w ≡ stopped w.number w.time) × (all_lines w ≡ w.lines)
 stopped_ahead w s d =
     let e = d s.some_number in
     let n = ap (λ (x : Read). length x.records) e in
     (rw s.no_records e, omega arith)
 
-gives_at : (a b : Way) (x y : Read) (l m : ℕ) (out : List (List ℕ)) (t : Option Refused) → still_gives a ≡ x → all_lines_lem a ≡ l → still_gives b ≡ y → all_lines_lem b ≡ m
+gives_at : (a b : Way) (x y : Read) (l m : ℕ) (out : List (List ℕ)) (t : Option Refused) → still_gives a ≡ x → all_lines a ≡ l → still_gives b ≡ y → all_lines b ≡ m
     → out ≡ printed_for x y → t ≡ tells x l y m → Gives a b out t
 gives_at a b x y l m out t e f g h p q =
     record {
@@ -126,8 +126,8 @@ gives_at a b x y l m out t e f g h p q =
           q
           ∙ ap (λ (z : Read). tells z l y m) (sym e)
           ∙ ap (λ (z : ℕ). tells (still_gives a) z y m) (sym f)
-          ∙ ap (λ (z : Read). tells (still_gives a) (all_lines_lem a) z m) (sym g)
-          ∙ ap (λ (z : ℕ). tells (still_gives a) (all_lines_lem a) (still_gives b) z) (sym h);
+          ∙ ap (λ (z : Read). tells (still_gives a) (all_lines a) z m) (sym g)
+          ∙ ap (λ (z : ℕ). tells (still_gives a) (all_lines a) (still_gives b) z) (sym h);
     }
 
 -- the first file's next line is refused
@@ -136,7 +136,7 @@ unfolding printed_of joined refused_after
 first_stopped a b s d =
     let e = stopped_ahead a s d in
     let n = ne_eqb a.number 0 s.some_number in
-    gives_at a b (stopped a.number a.time) (still_gives b) a.lines (all_lines_lem b) _ _ e.0 e.1 refl refl (rw n) (rw n)
+    gives_at a b (stopped a.number a.time) (still_gives b) a.lines (all_lines b) _ _ e.0 e.1 refl refl (rw n) (rw n)
 
 -- the second's is, and the first has records, or is at its end
 second_stopped : (a b : Way) → Ready a → Stopped b → Sound b → Gives a b [] (some (record { second = true; line = b.lines + 1; number = b.number }))
@@ -144,18 +144,18 @@ unfolding printed_of joined ahead refused_after
 second_stopped a b (has x xs r) s d =
     let e = stopped_ahead b s d in
     let n = ne_eqb b.number 0 s.some_number in
-    gives_at a b (onto (x ∷ xs) (to_come a)) (stopped b.number b.time) (all_lines_lem a) b.lines _ _
+    gives_at a b (onto (x ∷ xs) (to_come a)) (stopped b.number b.time) (all_lines a) b.lines _ _
     (ap (λ (rs : List (List ℕ)). onto rs (to_come a)) r) refl e.0 e.1 (rw n) (rw n)
 second_stopped a b (ends en) s d =
     let e = stopped_ahead b s d in
     let n = ne_eqb b.number 0 s.some_number in
-    gives_at a b (stopped 0 a.time) (stopped b.number b.time) (all_lines_lem a) b.lines _ _ (rw en.no_records (ended_rest a en)) refl e.0 e.1
+    gives_at a b (stopped 0 a.time) (stopped b.number b.time) (all_lines a) b.lines _ _ (rw en.no_records (ended_rest a en)) refl e.0 e.1
     refl (rw n)
 
 both_ended : (a b : Way) → Ended a → Ended b → Gives a b [] none
 unfolding printed_of joined refused_after
 both_ended a b e f =
-    gives_at a b (stopped 0 a.time) (stopped 0 b.time) (all_lines_lem a) (all_lines_lem b) _ _ (rw e.no_records (ended_rest a e)) refl
+    gives_at a b (stopped 0 a.time) (stopped 0 b.time) (all_lines a) (all_lines b) _ _ (rw e.no_records (ended_rest a e)) refl
     (rw f.no_records (ended_rest b f)) refl refl refl
 
 -- ---- how the files arrive decides nothing
@@ -164,14 +164,14 @@ any_joining : (a b : Way) (out : List (List ℕ)) (t : Option Refused) → Joini
 any_joining a b out t (first_comes a₀ a' b₀ o u c rest) s d =
     let k = comes a₀ a' c in
     let i = any_joining a' b₀ o u rest (k.sound s) d in
-    gives_at a₀ b₀ (still_gives a') (still_gives b₀) (all_lines_lem a') (all_lines_lem b₀) o u (sym k.gives) (sym k.counts) refl refl i.prints_all i.tells_end
+    gives_at a₀ b₀ (still_gives a') (still_gives b₀) (all_lines a') (all_lines b₀) o u (sym k.gives) (sym k.counts) refl refl i.prints_all i.tells_end
 any_joining a b out t (second_comes a₀ b₀ b' o u c rest) s d =
     let k = comes b₀ b' c in
     let i = any_joining a₀ b' o u rest s (k.sound d) in
-    gives_at a₀ b₀ (still_gives a₀) (still_gives b') (all_lines_lem a₀) (all_lines_lem b') o u refl refl (sym k.gives) (sym k.counts) i.prints_all i.tells_end
+    gives_at a₀ b₀ (still_gives a₀) (still_gives b') (all_lines a₀) (all_lines b') o u refl refl (sym k.gives) (sym k.counts) i.prints_all i.tells_end
 any_joining a b out t (turn a₀ b₀ o u ra rb rest) s d =
     let i = any_joining _ _ o u rest s d in
-    let g = turns (all_lines_lem a₀) (all_lines_lem b₀) a₀.records b₀.records (to_come a₀) (to_come b₀) a₀.time b₀.time (ready_rest a₀ ra) (ready_rest b₀ rb) in
+    let g = turns (all_lines a₀) (all_lines b₀) a₀.records b₀.records (to_come a₀) (to_come b₀) a₀.time b₀.time (ready_rest a₀ ra) (ready_rest b₀ rb) in
     record {
       prints_all = ap (λ (z : List (List ℕ)). (part_of a₀.records b₀.records).printed ++ z) i.prints_all ∙ g.printed_first;
       tells_end = i.tells_end ∙ g.told_same;

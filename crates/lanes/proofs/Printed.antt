@@ -14,8 +14,8 @@ use Rattle.probes.specs.Records.{time_of, falls_after, falls}
 use Rattle.probes.specs.Joins.{joined}
 use Rattle.probes.specs.Orders.{rest_of, Interleaves, EqualFirst}
 use Rattle.probes.proofs.Merging.{interleaves}
-use Rattle.probes.proofs.Rising.{rise, risen, never_falls as join-rises}
-use Rattle.probes.proofs.Firsts.{equal_first as join-equal-first}
+use Rattle.probes.proofs.Rising.{rise, risen, never_falls as join_rises}
+use Rattle.probes.proofs.Firsts.{equal_first as join_equal_first}
 use Rattle.lanes.specs.Files.{Read, file_of}
 use Rattle.lanes.specs.Program.{printed_of, Refused, refused_after, or_else, told_of, printed_for, text_of, fed, told}
 use Rattle.lanes.proofs.Links.{loaded_rises}
@@ -41,7 +41,7 @@ rest_rise t ws xs ys false p false h = first_rise t ws xs h
 -- so none falls in what is printed
 printed_rise : (xs ys : List (List ℕ)) (m n : ℕ) → falls xs ≡ false → falls ys ≡ false → falls (printed_of xs m ys n) ≡ false
 unfolding printed_of
-printed_rise xs ys m n h k = rest_rise 0 (joined xs ys).written _ _ (joined xs ys).first_done (eqb m 0) (eqb n 0) (join-rises xs ys 0 h k)
+printed_rise xs ys m n h k = rest_rise 0 (joined xs ys).written _ _ (joined xs ys).first_done (eqb m 0) (eqb n 0) (join_rises xs ys 0 h k)
 
 -- ---- nothing is told
 
@@ -100,7 +100,7 @@ module _ (first second : List ℕ) where
     pub equal_first : EqualFirst a.records b.records (printed_for a b)
     equal_first =
         subst (EqualFirst a.records b.records) all
-        (join-equal-first a.records b.records (loaded_rises (lines_of first) 0) (loaded_rises (lines_of second) 0))
+        (join_equal_first a.records b.records (loaded_rises (lines_of first) 0) (loaded_rises (lines_of second) 0))
 
 -- Where no line of a file is refused, its records, as text, are its lines, as they stood.
 pub every_line : (s : List ℕ) → (file_of s).number ≡ 0 → text_of (file_of s).records ≡ fed (lines_of s)

@@ -129,8 +129,8 @@ abbrev pub still_gives : Way → Read
 still_gives w = onto w.records (to_come w)
 
 -- how many lines it has before one is refused
-abbrev pub all_lines_lem : Way → ℕ
-all_lines_lem w = w.lines + length (to_come w).records
+abbrev pub all_lines : Way → ℕ
+all_lines w = w.lines + length (to_come w).records
 
 -- a line that is known to be refused is the next
 abbrev pub Sound : Way → Type 0
@@ -139,7 +139,7 @@ Sound w = (w.number ≡ 0 → ⊥) → to_come w ≡ stopped w.number w.time
 -- as it comes on, it gives the same
 pub record Keeps (w w' : Way) : Type 0 where
   pub gives : still_gives w' ≡ still_gives w
-  pub counts : all_lines_lem w' ≡ all_lines_lem w
+  pub counts : all_lines w' ≡ all_lines w
   pub sound : Sound w → Sound w'
 
 pub comes : (w w' : Way) → Comes w w' → Keeps w w'

@@ -9,12 +9,12 @@ use lib.Seq.{take_at}
 use denote.Ref.{Bor}
 use Rattle.probes.specs.Records.{records_of, words_of, falls}
 use Rattle.probes.specs.Joins.{Joined, joined, From, Rest, Joins}
-use Rattle.probes.specs.Orders.{rest_of, Interleaves, EqualFirst, first_ends_lem}
+use Rattle.probes.specs.Orders.{rest_of, Interleaves, EqualFirst, first_ends}
 use Rattle.probes.proofs.Answers.{known, took, left}
 use Rattle.probes.proofs.Merging.{interleaves, permutes, as_many, used_up}
 use Rattle.probes.proofs.Rising.{never_falls}
-use Rattle.probes.proofs.Firsts.{equal_first as firsts-first}
-use Rattle.probes.proofs.Ends.{whose_rest as last-times}
+use Rattle.probes.proofs.Firsts.{equal_first as firsts_first}
+use Rattle.probes.proofs.Ends.{whose_rest as last_times}
 use Rattle.probes.proofs.Words.{all_nine, joined_nine, words_long, of_words, drop_records, so_many}
 
 rest_records : (a b : Bor (List ℕ)) (d : Bool) (f s : ℕ) (r : Bor (List ℕ)) → From (pick d b a) (9 * pick d s f) r
@@ -86,16 +86,16 @@ module _ (a b : Bor (List ℕ)) (third : List ℕ) (number count : ℕ) (third' 
     unfolding whole
     equal_first =
         let k = known a b third number h.numbered z in
-        rw (written_records, left_records) (firsts-first (records_of a.now) (records_of b.now) k.first_rises k.second_rises)
+        rw (written_records, left_records) (firsts_first (records_of a.now) (records_of b.now) k.first_rises k.second_rises)
 
     -- the rest is the second list's where the first's last time is not above the second's, else the first's; a list with no records is used up
-    pub whose_rest : From (pick (first_ends_lem (records_of a.now) (records_of b.now)) b a)
-        (9 * pick (first_ends_lem (records_of a.now) (records_of b.now)) (joined (records_of a.now) (records_of b.now)).seconds (joined (records_of a.now) (records_of b.now)).firsts)
+    pub whose_rest : From (pick (first_ends (records_of a.now) (records_of b.now)) b a)
+        (9 * pick (first_ends (records_of a.now) (records_of b.now)) (joined (records_of a.now) (records_of b.now)).seconds (joined (records_of a.now) (records_of b.now)).firsts)
         r
     unfolding whole
     whose_rest =
         let k = known a b third number h.numbered z in
-        rw (← last-times (records_of a.now) (records_of b.now) k.first_rises k.second_rises) rest_from
+        rw (← last_times (records_of a.now) (records_of b.now) k.first_rises k.second_rises) rest_from
 
     -- of the other list every record is written
     pub other_used_up : let d = (joined (records_of a.now) (records_of b.now)).first_done in

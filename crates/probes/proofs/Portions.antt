@@ -20,12 +20,12 @@ after_second r i j = simp suc-add
 
 module _ (a' b' : List (List ℕ)) where
   -- what i says of the first parts a and b, and then the join of their rests and what follows them
-  abbrev goesOn : List (List ℕ) → List (List ℕ) → Joined → Joined
-  goesOn a b i = after i (joined (drop i.firsts a ++ a') (drop i.seconds b ++ b'))
+  abbrev goes_on : List (List ℕ) → List (List ℕ) → Joined → Joined
+  goes_on a b i = after i (joined (drop i.firsts a ++ a') (drop i.seconds b ++ b'))
 
-  by_parts : (a b : List (List ℕ)) → joined (a ++ a') (b ++ b') ≡ goesOn a b (joined a b)
+  by_parts : (a b : List (List ℕ)) → joined (a ++ a') (b ++ b') ≡ goes_on a b (joined a b)
   by_parts =
-      by_steps (λ a b j. joined (a ++ a') (b ++ b') ≡ goesOn a b j)
+      by_steps (λ a b j. joined (a ++ a') (b ++ b') ≡ goes_on a b j)
       (λ ys. sym (after_none true _))
       (λ x xs. sym (after_none false _))
       (λ x y xs ys j l h. first_next x (xs ++ a') y (ys ++ b') l ∙ ap (by_first x) h ∙ sym (after_first x j _))

@@ -1,6 +1,5 @@
 use mathlib.Core.Path.{refl}
 use native.Mathlib.Omega.{arith}
-use borrow.Author.Rules.{rules}
 use Rattle.probes.proofs.Answers.{tail, known, refused, first_rest, second_rest}
 use Rattle.probes.proofs.joining.join.Goals as goal
 

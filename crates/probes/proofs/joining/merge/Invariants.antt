@@ -1,8 +1,7 @@
-use Prim.Native.Nat.{◌+◌, ◌-◌, ◌<◌}
-use mathlib.Core.Path.{◌≡◌, refl, ◌∙◌}
-use native.Mathlib.Omega.{arith}
+use Prim.Native.Nat.{◌+◌, ◌-◌}
+use mathlib.Core.Path.{◌≡◌}
 use lib.ListN.{length}
-use Rattle.probes.proofs.Going.{Going, begun, both_left, first_put, second_put, ended}
+use Rattle.probes.proofs.Going.{Going}
 use Rattle.probes.proofs.joining.merge.Given as goal
 
 abbrev pub invariant-loop-i : goal.invariant-loop-i

@@ -1,4 +1,3 @@
-use borrow.Author.Rules.{rules}
 use native.Mathlib.Omega.{arith}
 use Rattle.probes.proofs.Refusals.{told, by_length, both_even, first_falls, second_falls, none_falls}
 use Rattle.probes.proofs.joining.refusal.Goals as goal

@@ -1,9 +1,6 @@
-use Prim.Native.Nat.{◌-◌, ◌≤◌}
 use mathlib.Core.Path.{◌≡◌, refl, ◌∙◌}
 use mathlib.Core.List.{append-nil}
 use native.Mathlib.Omega.{arith}
-use lib.ListN.{drop}
-use lib.Seq.{paste}
 use Rattle.probes.proofs.Chunks.{record_step}
 use borrow.Author.Rules.{rules}
 use Rattle.probes.proofs.records.record_at.Goals as goal

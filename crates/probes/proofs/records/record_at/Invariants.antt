@@ -1,11 +1,7 @@
 use Prim.Native.Nat.{◌-◌, ◌≤◌}
-use mathlib.Core.Path.{◌≡◌, refl, ◌∙◌}
-use mathlib.Core.List.{append-nil}
-use native.Mathlib.Omega.{arith}
+use mathlib.Core.Path.{◌≡◌}
 use lib.ListN.{drop}
 use lib.Seq.{paste}
-use Rattle.probes.proofs.Chunks.{record_step}
-use borrow.Author.Rules.{rules}
 use Rattle.probes.proofs.records.record_at.Given as goal
 
 abbrev pub invariant-loop-k : goal.invariant-loop-k

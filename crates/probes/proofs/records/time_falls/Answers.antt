@@ -1,8 +1,5 @@
-use Prim.Native.Nat.{◌-◌, ◌%◌, ◌≤◌}
-use mathlib.Core.Path.{◌≡◌, refl, sym, ◌∙◌}
+use mathlib.Core.Path.{refl, sym, ◌∙◌}
 use native.Mathlib.Omega.{arith}
-use lib.ListN.{length, drop}
-use Rattle.probes.specs.Records.{records_of, falls_after, falls}
 use Rattle.probes.proofs.Chunks.{falls_none, falls_here, falls_more}
 use borrow.Author.Rules.{rules}
 use Rattle.probes.proofs.records.time_falls.Goals as goal

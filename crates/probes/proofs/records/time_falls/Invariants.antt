@@ -1,10 +1,7 @@
 use Prim.Native.Nat.{◌-◌, ◌%◌, ◌≤◌}
-use mathlib.Core.Path.{◌≡◌, refl, sym, ◌∙◌}
-use native.Mathlib.Omega.{arith}
+use mathlib.Core.Path.{◌≡◌}
 use lib.ListN.{length, drop}
 use Rattle.probes.specs.Records.{records_of, falls_after, falls}
-use Rattle.probes.proofs.Chunks.{falls_none, falls_here, falls_more}
-use borrow.Author.Rules.{rules}
 use Rattle.probes.proofs.records.time_falls.Given as goal
 
 abbrev pub invariant-loop-i : goal.invariant-loop-i

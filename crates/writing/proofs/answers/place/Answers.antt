@@ -1,6 +1,5 @@
 use native.Mathlib.Omega.{arith}
 use Rattle.writing.proofs.Puts.{lengths, puts_answer}
-use borrow.Author.Rules.{rules}
 use Rattle.writing.proofs.answers.place.Goals as goal
 
 pub put_number-p-requires : goal.put_number-p-requires
@@ -27,4 +26,6 @@ returns c =
     let x = c.put_number-p in
     let y = c.put_number-q in
     let z = c.put_number in
-    puts_answer _ x.new.dst y.new.dst z.new.dst a.at x.result y.result z.result a.n a.word a.slot x.ensures y.ensures z.ensures
+    let p = puts_answer a.dst.now x.new.dst y.new.dst z.new.dst a.at x.result y.result z.result a.n a.word a.slot
+    (x.ensures.value, x.ensures.dst_after) (y.ensures.value, y.ensures.dst_after) (z.ensures.value, z.ensures.dst_after) in
+    record { value = p.0; dst_after = p.1 }

@@ -1,9 +1,7 @@
 use Prim.Native.Nat.{◌-◌, ◌*◌, ◌/◌, ◌≤◌}
-use mathlib.Core.Path.{◌≡◌, refl, ◌∙◌}
-use native.Mathlib.Omega.{arith}
+use mathlib.Core.Path.{◌≡◌}
 use lib.ListN.{length}
-use Rattle.writing.proofs.Puts.{Printing, printing_start, printing_more, printing_end, no_bytes, no_words}
-use borrow.Author.Rules.{rules}
+use Rattle.writing.proofs.Puts.{Printing}
 use Rattle.writing.proofs.answers.print.Given as goal
 
 abbrev pub invariant-loop-j : goal.invariant-loop-j

@@ -3,20 +3,21 @@ use native.Mathlib.Omega.{arith}
 use lib.Seq.{sets}
 use Rattle.writing.specs.Writing.{answer_text}
 use Rattle.writing.proofs.Puts.{length_answer, no_room, is_put}
-use borrow.Author.Rules.{rules}
 use Rattle.writing.proofs.answers.write.Goals as goal
 
 pub returns-then-dst-at : goal.returns-then-dst-at
 returns-then-dst-at c =
     let a = c.args in
     let l = length_answer a.number a.word a.slot in
-    no_room _ a.at _ (omega (arith, l))
+    let p = no_room a.dst.now a.at (answer_text a.number a.word a.slot) (omega (arith, l)) in
+    record { value = p.0; dst_after = p.1 }
 
 pub returns-then-dst-at-2 : goal.returns-then-dst-at-2
 returns-then-dst-at-2 c =
     let a = c.args in
     let l = length_answer a.number a.word a.slot in
-    no_room _ a.at _ (omega (arith, l))
+    let p = no_room a.dst.now a.at (answer_text a.number a.word a.slot) (omega (arith, l)) in
+    record { value = p.0; dst_after = p.1 }
 
 pub place-requires : goal.place-requires
 place-requires c =
@@ -30,4 +31,4 @@ returns c =
     let l = length_answer a.number a.word a.slot in
     let t = answer_text a.number a.word a.slot in
     let w = is_put a.dst.now a.at t (omega arith) in
-    (omega arith, ◌∙◌ {b = sets a.dst.now a.at t} c.place.ensures.1 w.1)
+    record { value = omega arith; dst_after = ◌∙◌ {b = sets a.dst.now a.at t} c.place.ensures.dst_after w.1 }

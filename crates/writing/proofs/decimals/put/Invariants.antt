@@ -1,11 +1,8 @@
-use Prim.Native.Nat.{ℕ, suc, ◌+◌, ◌-◌, ◌%◌, ◌≤◌, ◌<◌}
-use mathlib.Core.Path.{◌≡◌, refl, ◌∙◌}
-use native.Mathlib.Omega.{arith}
-use lib.ListN.{length, length-set}
+use Prim.Native.Nat.{◌-◌, ◌≤◌, ◌<◌}
+use mathlib.Core.Path.{◌≡◌}
+use lib.ListN.{length}
 use lib.Seq.{sets}
 use Rattle.writing.specs.Parts.{digits}
-use Rattle.writing.proofs.Digits.{put_last, put_end}
-use borrow.Author.Rules.{rules}
 use Rattle.writing.proofs.decimals.put.Given as goal
 
 abbrev pub invariant-loop-i : goal.invariant-loop-i

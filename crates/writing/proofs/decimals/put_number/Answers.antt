@@ -2,7 +2,6 @@ use mathlib.Core.Path.{ap}
 use native.Mathlib.Omega.{arith}
 use lib.ListN.{length, length-set}
 use Rattle.writing.proofs.Puts.{decimal_one, decimal_two, puts_one, puts_two, puts_digits}
-use borrow.Author.Rules.{rules}
 use Rattle.writing.proofs.decimals.put_number.Goals as goal
 
 pub bounds-dst-at : goal.bounds-dst-at
@@ -18,7 +17,9 @@ bounds-dst-at-then-n-lt10 c =
     simp length-set (omega arith)
 
 pub returns-then-n-lt10 : goal.returns-then-n-lt10
-returns-then-n-lt10 c = puts_one _ _ _ _ c.if-n-lt10.true
+returns-then-n-lt10 c =
+    let p = puts_one c.args.dst.now c.args.at c.args.n c.args.end c.if-n-lt10.true in
+    record { value = p.0; dst_after = p.1 }
 
 pub bounds-dst-at-then-n-lt100 : goal.bounds-dst-at-then-n-lt100
 bounds-dst-at-then-n-lt100 c =
@@ -39,9 +40,12 @@ bounds-dst-at-then-n-lt100-3 c =
     simp length-set (omega arith)
 
 pub returns-then-n-lt100 : goal.returns-then-n-lt100
-returns-then-n-lt100 c = puts_two _ _ _ _ c.if-n-lt10.false c.if-n-lt100.true
+returns-then-n-lt100 c =
+    let p = puts_two c.args.dst.now c.args.at c.args.n c.args.end c.if-n-lt10.false c.if-n-lt100.true in
+    record { value = p.0; dst_after = p.1 }
 
 pub returns : goal.returns
 returns c =
     let a = c.args in
-    puts_digits _ _ a.at a.n a.end _ (omega arith) c.width-k.ensures.0 c.put.ensures
+    let p = puts_digits a.dst.now c.put.new.dst a.at a.n a.end c.width-k.result (omega arith) c.width-k.ensures.0 c.put.ensures in
+    record { value = p.0; dst_after = p.1 }

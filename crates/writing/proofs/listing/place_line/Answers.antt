@@ -1,10 +1,8 @@
-use Prim.Native.Nat.{◌+◌, ◌-◌, ◌*◌, ◌≤◌}
-use mathlib.Core.Path.{◌≡◌, refl, ◌∙◌}
+use mathlib.Core.Path.{refl, ◌∙◌}
 use native.Mathlib.Omega.{arith}
-use lib.ListN.{length, get_or}
+use lib.ListN.{get_or}
 use Rattle.writing.proofs.Puts.{decimal_short, length_ended}
-use Rattle.writing.proofs.Rows.{Lining, lining_start, lining_more, lining_end}
-use borrow.Author.Rules.{rules}
+use Rattle.writing.proofs.Rows.{lining_start, lining_more, lining_end}
 use Rattle.writing.proofs.listing.place_line.Goals as goal
 
 pub loop-k-init : goal.loop-k-init
@@ -31,7 +29,7 @@ loop-k-preserved c =
     let p = c.put_number-p in
     let b = c.byte_after-end in
     let n = c.args.numbers.now in
-    let g = lining_more _ n _ l.k l.p l.dst l.invariant.5 (omega arith) b.result p.result p.new.dst b.ensures p.ensures.0 p.ensures.1 in
+    let g = lining_more _ n _ l.k l.p l.dst l.invariant.5 (omega arith) b.result p.result p.new.dst b.ensures p.ensures.value p.ensures.dst_after in
     (refl, l.invariant.1, p.auto.dst ∙ l.invariant.2, omega arith, omega (arith, length_ended (get_or n l.k 0) b.result, decimal_short (get_or n l.k 0)), g)
 
 pub shape_of-dst : goal.shape_of-dst
@@ -40,4 +38,5 @@ shape_of-dst c = c.loop-k.invariant.2
 pub returns : goal.returns
 returns c =
     let l = c.loop-k in
-    lining_end _ _ _ l.k l.p l.dst l.invariant.5 (omega arith)
+    let p = lining_end c.args.dst.now c.args.numbers.now c.args.at l.k l.p l.dst l.invariant.5 (omega arith) in
+    record { value = p.0; dst_after = p.1 }

@@ -1,10 +1,7 @@
 use Prim.Native.Nat.{◌+◌, ◌-◌, ◌*◌, ◌≤◌}
-use mathlib.Core.Path.{◌≡◌, refl, ◌∙◌}
-use native.Mathlib.Omega.{arith}
-use lib.ListN.{length, get_or}
-use Rattle.writing.proofs.Puts.{decimal_short, length_ended}
-use Rattle.writing.proofs.Rows.{Lining, lining_start, lining_more, lining_end}
-use borrow.Author.Rules.{rules}
+use mathlib.Core.Path.{◌≡◌}
+use lib.ListN.{length}
+use Rattle.writing.proofs.Rows.{Lining}
 use Rattle.writing.proofs.listing.place_line.Given as goal
 
 abbrev pub invariant-loop-k : goal.invariant-loop-k
