@@ -41,8 +41,8 @@ pub loop-count-preserved : goal.loop-count-preserved
 loop-count-preserved c =
     let l = c.loop-count in
     let f = c.field-f in
-    let t = left_tab _ _ l.i l.count l.words l.invariant.3 f.result f.ensures c.if-end-i.false c.if-f-ne9.false in
-    (simp length-set l.invariant.0, omega arith, omega arith, t.1)
+    let tab = left_tab _ _ l.i l.count l.words l.invariant.3 f.result f.ensures c.if-end-i.false c.if-f-ne9.false in
+    (simp length-set l.invariant.0, omega arith, omega arith, tab.1)
 
 pub returns : goal.returns
 returns c =
