@@ -36,13 +36,8 @@ fn event(kind: u32, node: u32) -> Event {
 }
 
 // Number, word and slot with spaces between, and a line feed.
-fn show(a: Answer) {
-    io::print_decimal(1, a.number as u64);
-    io::write_all(1, b" ");
-    io::print_decimal(1, a.word as u64);
-    io::write_all(1, b" ");
-    io::print_decimal(1, a.slot as u64);
-    io::write_all(1, b"\n");
+fn show(rt: &impl Print, a: Answer) {
+    let _ = println!(rt; "{} {} {}", a.number, a.word, a.slot);
 }
 
 // Two caches and one line of three tokens, with these three cells.
@@ -60,16 +55,16 @@ fn with_two(first: Cell, memory: Cell) -> State {
     with_three(first, cell(0, false, false, Want::Nothing, 0), memory)
 }
 
-fn said(s: State, e: Event) {
+fn said(rt: &impl Print, s: State, e: Event) {
     let r = model::step(s, e);
-    show(r.answer);
+    show(rt, r.answer);
 }
 
 // A step, and then a read at the same node.
-fn then_read(s: State, e: Event) {
+fn then_read(rt: &impl Print, s: State, e: Event) {
     let r = model::step(s, e);
-    show(r.answer);
-    said(r.state, event(0, e.node));
+    show(rt, r.answer);
+    said(rt, r.state, event(0, e.node));
 }
 
 // A cache that wants to read and has only a backup, of this word.
@@ -78,15 +73,12 @@ fn backed(word: u32) -> Cell {
 }
 
 // A batch of reads, and what it leaves: its number and count, and the first three answer words.
-fn batched(s: State, events: &[u32], answers: &mut [u32])
+fn batched(rt: &impl Print, s: State, events: &[u32], answers: &mut [u32])
     requires { 3 ≤ length answers.old }
 {
     let b = model::batch(s, events, answers);
-    io::print_decimal(1, b.number as u64);
-    io::write_all(1, b" ");
-    io::print_decimal(1, b.count as u64);
-    io::write_all(1, b"\n");
-    show(words(answers[0], answers[1], answers[2]));
+    let _ = println!(rt; "{} {}", b.number, b.count);
+    show(rt, words(answers[0], answers[1], answers[2]));
 }
 
 fn words(number: u32, word: u32, slot: u32) -> Answer {
@@ -94,28 +86,31 @@ fn words(number: u32, word: u32, slot: u32) -> Answer {
 }
 
 // Two events and nine answer words: the last three stay.
-fn two_events(s: State) {
+fn two_events(rt: &impl Print, s: State) {
     let mut nine = [77u32; 9];
-    batched(s, &[0u32; 16], &mut nine);
-    show(words(nine[3], nine[4], nine[5]));
-    show(words(nine[6], nine[7], nine[8]));
+    batched(rt, s, &[0u32; 16], &mut nine);
+    show(rt, words(nine[3], nine[4], nine[5]));
+    show(rt, words(nine[6], nine[7], nine[8]));
 }
 
-fn steps() {
+fn steps(rt: &impl Print) {
     let none = cell(0, false, false, Want::Nothing, 0);
     let waiting = cell(0, false, false, Want::Read, 0);
     // cache 0 holds all three tokens and the memory none: well formed, the read is done
     said(
+        rt,
         with_two(cell(3, true, false, Want::Nothing, 7), none),
         event(0, 0),
     );
     // four tokens where N is three: not well formed
     said(
+        rt,
         with_two(cell(4, true, false, Want::Nothing, 7), none),
         event(0, 0),
     );
     // three tokens in the cache and one in the memory: no cell has too many, but the line has
     said(
+        rt,
         with_two(
             cell(3, true, false, Want::Nothing, 7),
             cell(1, false, false, Want::Nothing, 0),
@@ -124,43 +119,44 @@ fn steps() {
     );
     // the memory has a want: not well formed
     said(
+        rt,
         with_two(cell(3, true, false, Want::Nothing, 7), waiting),
         event(0, 0),
     );
 }
 
 // Lines with no owner and no valid cell.
-fn backups() {
+fn backups(rt: &impl Print) {
     let none = cell(0, false, false, Want::Nothing, 0);
     let waiting = cell(0, false, false, Want::Read, 0);
     let memory = cell(0, false, true, Want::Nothing, 9);
     // cache 0 wants to read and only the memory has a backup: 23; the memory's own timeout is done
-    said(with_two(waiting, memory), event(7, 0));
-    said(with_two(waiting, memory), event(8, 2));
+    said(rt, with_two(waiting, memory), event(7, 0));
+    said(rt, with_two(waiting, memory), event(8, 2));
     // two backups, and cache 0 has neither: 23
-    said(with_three(waiting, backed(8), memory), event(7, 0));
+    said(rt, with_three(waiting, backed(8), memory), event(7, 0));
     // three backups: the node that is named uses its own, and its read gives that word
-    then_read(with_three(backed(7), backed(8), memory), event(7, 0));
-    then_read(with_three(backed(7), backed(8), memory), event(7, 1));
-    then_read(with_three(backed(7), backed(8), memory), event(8, 1));
+    then_read(rt, with_three(backed(7), backed(8), memory), event(7, 0));
+    then_read(rt, with_three(backed(7), backed(8), memory), event(7, 1));
+    then_read(rt, with_three(backed(7), backed(8), memory), event(8, 1));
     // no owner, no valid cell and no backup on the line: 18
-    said(with_two(waiting, none), event(7, 0));
+    said(rt, with_two(waiting, none), event(7, 0));
 }
 
-fn main() {
-    steps();
-    backups();
+fn main(rt: HostRuntime) {
+    steps(&rt);
+    backups(&rt);
     let none = cell(0, false, false, Want::Nothing, 0);
     let held = with_two(cell(3, true, false, Want::Nothing, 7), none);
     let mut three = [77u32; 3];
     let mut five = [77u32; 5];
     // nine words, which are no multiple of eight: 20
-    batched(held, &[0u32; 9], &mut three);
+    batched(&rt, held, &[0u32; 9], &mut three);
     // two events and five answer words: 21
-    batched(held, &[0u32; 16], &mut five);
+    batched(&rt, held, &[0u32; 16], &mut five);
     // both: 20
-    batched(held, &[0u32; 17], &mut five);
-    two_events(held);
+    batched(&rt, held, &[0u32; 17], &mut five);
+    two_events(&rt, held);
     // four tokens where N is three: not well formed, so each event answers 1
-    two_events(with_two(cell(4, true, false, Want::Nothing, 7), none));
+    two_events(&rt, with_two(cell(4, true, false, Want::Nothing, 7), none));
 }

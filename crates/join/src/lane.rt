@@ -1,8 +1,10 @@
 // One file on its way.
+use std::io;
+use std::io::Read;
 use streams::read_more;
 
 // The bytes that are held, the words that are to be joined, the last time, how many lines were read, and how the file ends:
-// the number of a line that is refused, the end of the file, or a read that failed.
+// the number of a line that is refused, the end of the file, or why a read failed.
 #[derive(Clone, Copy)]
 pub(crate) struct Lane {
     pub(crate) held: usize,
@@ -11,7 +13,7 @@ pub(crate) struct Lane {
     pub(crate) lines: u64,
     pub(crate) number: u32,
     pub(crate) ended: bool,
-    pub(crate) failed: bool,
+    pub(crate) failed: Option<io::Error>,
 }
 
 // Before the first line.
@@ -23,7 +25,7 @@ pub(crate) fn fresh() -> Lane {
         lines: 0,
         number: 0,
         ended: false,
-        failed: false,
+        failed: None,
     }
 }
 
@@ -50,8 +52,8 @@ fn counted(lines: u64, words: usize) -> u64 {
 }
 
 // Reads once where no whole line is held, and loads what can be read.
-fn load_more(x: Lane, fd: i32, buf: &mut [u8], words: &mut [u32]) -> Lane {
-    let got = read_more(fd, buf, x.held);
+fn load_more<R: Read>(x: Lane, input: &mut R, buf: &mut [u8], words: &mut [u32]) -> Lane {
+    let got = read_more(input, buf, x.held);
     let l = lanes::load(x.time, buf, got.held, got.last, words);
     Lane {
         held: l.held,
@@ -60,19 +62,24 @@ fn load_more(x: Lane, fd: i32, buf: &mut [u8], words: &mut [u32]) -> Lane {
         lines: counted(x.lines, l.count),
         number: l.number,
         ended: got.last & (l.held == 0),
-        failed: got.failed,
+        failed: got.why,
     }
 }
 
 // Loads until there are words to be joined, or the file is at its end, or a line is refused, or a read fails.
-pub(crate) fn refill(lane: Lane, fd: i32, buf: &mut [u8], words: &mut [u32]) -> Lane {
+pub(crate) fn refill<R: Read>(
+    lane: Lane,
+    input: &mut R,
+    buf: &mut [u8],
+    words: &mut [u32],
+) -> Lane {
     let mut x = lane;
     let mut turns = u64::MAX;
     while turns > 0 {
-        if (x.count != 0) | (x.number != 0) | x.ended | x.failed {
+        if (x.count != 0) | (x.number != 0) | x.ended | x.failed.is_some() {
             return x;
         }
-        let next = load_more(x, fd, buf, words);
+        let next = load_more(x, input, buf, words);
         x = next;
         turns -= 1;
     }

@@ -7,8 +7,18 @@ mod lane;
 mod telling;
 
 use lane::{Lane, fresh, left, refill};
+use std::env::FillError;
+use std::io;
+use std::io::{Read, Write};
+use std::rt::Env;
 use streams::send;
 use telling::{refused, told, usage};
+
+// A path has no more bytes.
+const MOST: usize = 4096;
+
+// The system's number for a name that is longer.
+const TOO_LONG: i32 = 36;
 
 // What both files have left after a turn, and whether another is due.
 #[derive(Clone, Copy)]
@@ -39,18 +49,20 @@ fn ended(first: Lane, second: Lane) -> Went {
 }
 
 // Prints what can be joined of two files, of which each has records or is at its end.
-fn print_turn(
+fn print_turn<W: Write, E: Write>(
     a: Lane,
     b: Lane,
+    output: &mut W,
+    errors: &mut E,
     first: &mut [u32],
     second: &mut [u32],
     third: &mut [u32],
     out: &mut [u8],
 ) -> Went {
     let t = lanes::turn(first, a.count, second, b.count, third, out);
-    let sent = send(out, t.written);
-    if !sent {
-        told(b"standard output");
+    let sent = send(output, out, t.written);
+    if let Err(why) = sent {
+        told(errors, b"standard output", &why);
     }
     let x = left(a, t.first);
     let y = left(b, t.second);
@@ -58,42 +70,43 @@ fn print_turn(
     Went {
         first: x,
         second: y,
-        on: sent & (t.number == 0),
+        on: sent.is_ok() & (t.number == 0),
     }
 }
 
 // Whether the join stops at this file: a read failed, or the next line is refused. That is told.
-fn stops(x: Lane, name: &[u8]) -> bool {
-    if x.failed {
-        told(name);
+fn stops<E: Write>(x: Lane, name: &[u8], errors: &mut E) -> bool {
+    if let Some(why) = x.failed {
+        told(errors, name, &why);
         return true;
     }
     if (x.count == 0) & (x.number != 0) {
-        refused(name, x.lines, x.number);
+        refused(errors, name, x.lines, x.number);
         return true;
     }
     false
 }
 
 // Loads what is missing of both files: another turn is due where one of them has records.
-fn load_both(
+fn load_both<R: Read, E: Write>(
     a: Lane,
     b: Lane,
-    fd: i32,
+    input: &mut R,
     name: &[u8],
-    other: i32,
+    other: &mut R,
     other_name: &[u8],
+    errors: &mut E,
     buf: &mut [u8],
     other_buf: &mut [u8],
     first: &mut [u32],
     second: &mut [u32],
 ) -> Went {
-    let x = refill(a, fd, buf, first);
-    if stops(x, name) {
+    let x = refill(a, input, buf, first);
+    if stops(x, name, errors) {
         return ended(x, b);
     }
     let y = refill(b, other, other_buf, second);
-    if stops(y, other_name) {
+    if stops(y, other_name, errors) {
         return ended(x, y);
     }
     Went {
@@ -104,13 +117,15 @@ fn load_both(
 }
 
 // Loads what is missing of both files, and prints what can be joined.
-fn go(
+fn go<R: Read, W: Write, E: Write>(
     a: Lane,
     b: Lane,
-    fd: i32,
+    input: &mut R,
     name: &[u8],
-    other: i32,
+    other: &mut R,
     other_name: &[u8],
+    output: &mut W,
+    errors: &mut E,
     buf: &mut [u8],
     other_buf: &mut [u8],
     first: &mut [u32],
@@ -119,22 +134,24 @@ fn go(
     out: &mut [u8],
 ) -> Went {
     let w = load_both(
-        a, b, fd, name, other, other_name, buf, other_buf, first, second,
+        a, b, input, name, other, other_name, errors, buf, other_buf, first, second,
     );
     if !w.on {
         return w;
     }
     let x = w.first;
     let y = w.second;
-    print_turn(x, y, first, second, third, out)
+    print_turn(x, y, output, errors, first, second, third, out)
 }
 
 // Turn after turn to the end of both files, or until a line is refused, or a read or a write fails.
-fn run(
-    fd: i32,
+fn run<R: Read, W: Write, E: Write>(
+    input: &mut R,
     name: &[u8],
-    other: i32,
+    other: &mut R,
     other_name: &[u8],
+    output: &mut W,
+    errors: &mut E,
     buf: &mut [u8],
     other_buf: &mut [u8],
     first: &mut [u32],
@@ -152,7 +169,8 @@ fn run(
         let a = w.first;
         let b = w.second;
         let next = go(
-            a, b, fd, name, other, other_name, buf, other_buf, first, second, third, out,
+            a, b, input, name, other, other_name, output, errors, buf, other_buf, first, second,
+            third, out,
         );
         w = next;
         turns -= 1;
@@ -160,7 +178,13 @@ fn run(
 }
 
 // Makes the lists once: a part of a file is at most 1,024 records.
-fn join_files(fd: i32, name: &[u8], other: i32, other_name: &[u8]) {
+fn join_files<R: Read>(
+    rt: &HostRuntime,
+    input: &mut R,
+    name: &[u8],
+    other: &mut R,
+    other_name: &[u8],
+) {
     let mut buf = [0u8; 32768];
     let mut other_buf = [0u8; 32768];
     let mut first = [0u32; 9216];
@@ -168,10 +192,12 @@ fn join_files(fd: i32, name: &[u8], other: i32, other_name: &[u8]) {
     let mut third = [0u32; 18432];
     let mut out = [0u8; 202752];
     run(
-        fd,
+        input,
         name,
         other,
         other_name,
+        &mut rt.stdout(),
+        &mut rt.stderr(),
         &mut buf,
         &mut other_buf,
         &mut first,
@@ -182,36 +208,48 @@ fn join_files(fd: i32, name: &[u8], other: i32, other_name: &[u8]) {
 }
 
 // Joins the files of these names.
-fn join_named(name: &[u8], other_name: &[u8]) {
-    let fd = os::open_read(name);
-    if fd < 0 {
-        told(name);
-        return;
+fn join_named(rt: &HostRuntime, name: &[u8], other_name: &[u8]) {
+    match streams::open(rt, name) {
+        Ok(file) => {
+            let mut input = file;
+            match streams::open(rt, other_name) {
+                Ok(other_file) => {
+                    let mut other = other_file;
+                    join_files(rt, &mut input, name, &mut other, other_name);
+                }
+                Err(why) => told(&mut rt.stderr(), other_name, &why),
+            }
+        }
+        Err(why) => told(&mut rt.stderr(), name, &why),
     }
-    let other = os::open_read(other_name);
-    if other < 0 {
-        told(other_name);
-        return;
-    }
-    join_files(fd, name, other, other_name);
 }
 
-fn main() {
-    if os::arg_count() != 3 {
-        usage();
+// Whether the program is called with this word or more; word 0 is its own name.
+fn has_word<V: Env>(env: &V, i: usize, room: &mut [u8]) -> bool {
+    match env.arg(i, room) {
+        Err(FillError::NotPresent) => false,
+        _ => true,
+    }
+}
+
+// A word that is too long for a path: which one it is, is told.
+fn long(rt: &HostRuntime, what: &[u8]) {
+    let why = io::Error::from_raw_os_error(TOO_LONG);
+    told(&mut rt.stderr(), what, &why);
+}
+
+fn main(rt: HostRuntime) {
+    let mut path = [0u8; MOST];
+    let mut other_path = [0u8; MOST];
+    if !has_word(&rt, 2, &mut path) || has_word(&rt, 3, &mut path) {
+        usage(&mut rt.stderr());
         return;
     }
-    let mut path = io::buffer();
-    let n = os::arg(1, &mut path);
-    if os::errno() != 0 {
-        told(b"the first file's name");
-        return;
+    match rt.arg(1, &mut path) {
+        Ok(n) => match rt.arg(2, &mut other_path) {
+            Ok(m) => join_named(&rt, &path[..n], &other_path[..m]),
+            Err(_) => long(&rt, b"the second file's name"),
+        },
+        Err(_) => long(&rt, b"the first file's name"),
     }
-    let mut other_path = io::buffer();
-    let m = os::arg(2, &mut other_path);
-    if os::errno() != 0 {
-        told(b"the second file's name");
-        return;
-    }
-    join_named(&path[..n], &other_path[..m]);
 }

@@ -6,6 +6,8 @@
 
 ghost use Rattle.std.specs.Prelude.{◌≤◌};
 
+use std::io::Read;
+
 // The event record at a place.
 fn put(words: [u32; 1152], at: usize, kind: u32, line: u32, node: u32, other: u32) -> [u32; 1152] {
     let mut next = words;
@@ -76,15 +78,13 @@ fn last(answers: &[u32]) -> u32 {
     if 429 < answers.len() { answers[429] } else { 7 }
 }
 
-fn main() {
-    let mut buf = io::buffer();
-    let got = libc::read(0, &mut buf);
-    let laps = io::count(got, &buf);
+fn main(rt: HostRuntime) {
+    let mut buf = [0u8; 4096];
+    let laps = rt.stdin().read(&mut buf).unwrap_or(0);
     let words = lap();
     let mut answers = [7u32; 432];
     let n = words_of(buf[0]);
     run(laps, &words[0..n], &mut answers);
     let number = last(&answers);
-    io::print_decimal(1, number as u64);
-    io::write_all(1, b"\n");
+    let _ = println!(rt; "{number}");
 }

@@ -6,6 +6,8 @@
 
 ghost use Rattle.std.specs.Prelude.{◌≤◌};
 
+use std::io::Read;
+
 // What the last join gave.
 #[derive(Clone, Copy)]
 struct Ended {
@@ -37,7 +39,7 @@ fn word_at(i: usize, time: u32, x: u32) -> u32 {
 // The time that comes after the word at place `i`.
 fn time_after(i: usize, time: u32, way: u8, x: u32) -> u32 {
     if i % 9 == 0 {
-        std::num::wrapping_add_u32(time, gap(way, x))
+        time.wrapping_add(gap(way, x))
     } else {
         time
     }
@@ -64,8 +66,8 @@ fn sum(list: &[u32]) -> u32 {
     let mut all: u32 = 0;
     let mut i: usize = 0;
     while i < n {
-        one = std::num::wrapping_add_u32(one, list[i]);
-        all = std::num::wrapping_add_u32(all, one);
+        one = one.wrapping_add(list[i]);
+        all = all.wrapping_add(one);
         i += 1;
     }
     all
@@ -102,19 +104,13 @@ fn start_of(way: u8, own: u8, early: u32) -> u32 {
 }
 
 // Prints what the last join gave, and the sum of the third list.
-fn show(e: Ended, third: &[u32]) {
-    io::print_decimal(1, e.number as u64);
-    io::write_all(1, b" ");
-    io::print_decimal(1, e.count as u64);
-    io::write_all(1, b" ");
-    io::print_decimal(1, e.left as u64);
-    io::write_all(1, b" ");
-    io::print_decimal(1, sum(third) as u64);
-    io::write_all(1, b"\n");
+fn show(rt: &impl Print, e: Ended, third: &[u32]) {
+    let all = sum(third);
+    let _ = println!(rt; "{} {} {} {all}", e.number, e.count, e.left);
 }
 
 // Makes two lists of so many words each, joins them so often, and once the other way round.
-fn measure(way: u8, n: usize, joins: usize)
+fn measure(rt: &impl Print, way: u8, n: usize, joins: usize)
     requires { n ≤ 2295 }
 {
     let mut first = [0u32; 2295];
@@ -123,15 +119,14 @@ fn measure(way: u8, n: usize, joins: usize)
     fill(&mut first, way, start_of(way, b's', 0), 1);
     fill(&mut second, way, start_of(way, b'f', 1), 2);
     let there = run(joins, &first[0..n], &second[0..n], &mut third);
-    show(there, &third);
+    show(rt, there, &third);
     let back = run(1, &second[0..n], &first[0..n], &mut third);
-    show(back, &third);
+    show(rt, back, &third);
 }
 
-fn main() {
-    let mut buf = io::buffer();
-    let got = libc::read(0, &mut buf);
-    let bytes = io::count(got, &buf);
+fn main(rt: HostRuntime) {
+    let mut buf = [0u8; 4096];
+    let bytes = rt.stdin().read(&mut buf).unwrap_or(0);
     let joins = if bytes < 2 { 0 } else { bytes - 2 };
-    measure(buf[0], words_of(buf[1]), joins);
+    measure(&rt, buf[0], words_of(buf[1]), joins);
 }

@@ -2,10 +2,12 @@
 // say what is read or written.
 #![tactic(auto)]
 
+mod opening;
 mod reading;
 mod telling;
 mod writing;
 
+pub use opening::open;
 pub use reading::{More, read_more};
 pub use telling::tell;
 pub use writing::send;

@@ -1,41 +1,42 @@
 // Output.
-ghost use Rattle.std.specs.Prelude.{◌≤◌, length};
+ghost use Rattle.std.specs.Prelude.{is_ok};
+ghost use Rattle.std.specs.Io.{WritesAtMost};
 ghost use Rattle.streams.specs.Sends.{Sends};
 
+use std::io;
+use std::io::{ErrorKind, Write};
 use text::least;
 
-// One write, tried again where a signal broke it off: how many bytes it took, none where it failed.
-fn write_once(part: &[u8]) -> usize
-    ensures { result ≤ length part.now }
+// One write, tried again where a signal broke it off: how many bytes it took.
+fn write_once<W: Write>(to: &mut W, part: &[u8]) -> io::Result<usize>
+    ensures { WritesAtMost result part.now }
 {
-    let mut put = libc::write(1, part);
-    let mut turns = u64::MAX;
-    while turns > 0 {
-        if put >= 0 {
-            return io::count(put, part);
+    for _ in 0..u64::MAX {
+        match to.write(part) {
+            Ok(put) => return Ok(put),
+            Err(why) => {
+                if why.kind() != ErrorKind::Interrupted {
+                    return Err(why);
+                }
+            }
         }
-        if os::errno() != libc::EINTR {
-            return 0;
-        }
-        put = libc::write(1, part);
-        turns -= 1;
     }
-    0
+    Err(io::Error::from(ErrorKind::Interrupted))
 }
 
-// Writes so many bytes, or all if there are fewer, and answers whether it could. The caller tells of a failure, with its own
-// name.
-pub fn send(out: &[u8], size: usize) -> bool
-    ensures { Sends out.now size result }
+// Writes so many bytes, or all if there are fewer, and answers whether it could, or why not. The caller tells of a failure,
+// with its own name.
+pub fn send<W: Write>(to: &mut W, out: &[u8], size: usize) -> io::Result<()>
+    ensures { Sends out.now size (is_ok result) }
 {
     let end = least(size, out.len());
     let mut at: usize = 0;
     while at < end {
-        let put = write_once(&out[at..end]);
+        let put = write_once(to, &out[at..end])?;
         if put == 0 {
-            return false;
+            return Err(io::Error::from(ErrorKind::WriteZero));
         }
         at += put;
     }
-    true
+    Ok(())
 }

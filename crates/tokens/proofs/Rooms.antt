@@ -1,9 +1,5 @@
 -- Room for the bytes that are held, and for more. Assumes nothing.
-use Prim.Native.Nat.{ℕ, ◌≤◌, ◌<◌}
-use mathlib.Core.Path.{◌≡◌}
-use mathlib.Core.List.{List}
-use native.Mathlib.Omega.{arith}
-use lib.ListN.{length}
+use Rattle.std.proofs.Common.{◌≡◌, ◌≤◌, ◌<◌, List, ℕ, length, arith}
 use Rattle.trace.specs.declared.turning.Turned.{Turned}
 use Rattle.lines.specs.Chunks.{Lent}
 use Rattle.trace.proofs.Turns.{Fits}

@@ -6,8 +6,18 @@
 ghost use Rattle.std.specs.Prelude.{◌<◌, ◌≡◌, length};
 ghost use Rattle.tokens.specs.Rooms.{Room};
 
+use std::env::FillError;
+use std::io;
+use std::io::{Read, Write};
+use std::rt::Env;
 use streams::{read_more, send, tell};
 use trace::Kept;
+
+// A path has no more bytes.
+const MOST: usize = 4096;
+
+// The system's number for a name that is longer.
+const TOO_LONG: i32 = 36;
 
 // What is kept and held after a turn, and whether another is due.
 #[derive(Clone, Copy)]
@@ -17,14 +27,14 @@ struct Went {
     on: bool,
 }
 
-// What failed, and errno's words.
-fn told(what: &[u8]) {
-    tell(b"tokens", what);
+// What failed, and the error's words.
+fn told<E: Write>(errors: &mut E, what: &[u8], why: &io::Error) {
+    tell(errors, b"tokens", what, why);
 }
 
 // How the program is called.
-fn usage() {
-    io::write_all(2, b"usage: tokens [FILE]\n");
+fn usage<E: Write>(errors: &mut E) {
+    let _ = errors.write_all(b"usage: tokens [FILE]\n");
 }
 
 // No turn is due, and nothing is held.
@@ -40,11 +50,13 @@ fn ended(kept: Kept) -> Went
 
 // Reads, answers and writes. A read that fails leaves no whole line held, so that nothing is to be answered after it. `Room`
 // keeps the turns from going on for nothing: where no whole line is held, there is room for a read.
-fn go(
+fn go<R: Read, W: Write, E: Write>(
     kept: Kept,
     held: usize,
-    fd: i32,
+    input: &mut R,
     name: &[u8],
+    output: &mut W,
+    errors: &mut E,
     buf: &mut [u8],
     words: &mut [u32],
     marks: &mut [u8],
@@ -55,9 +67,9 @@ fn go(
     requires room { Room buf.old held }
     ensures { Room buf.new result.held }
 {
-    let got = read_more(fd, buf, held);
-    if got.failed {
-        told(name);
+    let got = read_more(input, buf, held);
+    if let Some(why) = got.why {
+        told(errors, name, &why);
         return ended(kept);
     }
     // a turn with no line would check the whole state for nothing
@@ -65,23 +77,25 @@ fn go(
         return ended(kept);
     }
     let t = trace::turn(kept, buf, got.held, got.last, words, marks, answers, out);
-    let sent = send(out, t.written);
-    if !sent {
-        told(b"standard output");
+    let sent = send(output, out, t.written);
+    if let Err(why) = sent {
+        told(errors, b"standard output", &why);
     }
     let next = t.kept;
     let left = t.held;
     Went {
         kept: next,
         held: left,
-        on: sent & !(got.last & (left == 0)),
+        on: sent.is_ok() & !(got.last & (left == 0)),
     }
 }
 
 // Turn after turn to the end of input, or until a read or a write fails.
-fn run(
-    fd: i32,
+fn run<R: Read, W: Write, E: Write>(
+    input: &mut R,
     name: &[u8],
+    output: &mut W,
+    errors: &mut E,
     buf: &mut [u8],
     words: &mut [u32],
     marks: &mut [u8],
@@ -95,7 +109,9 @@ fn run(
     // the proof that a loop ends needs a number that falls; no input lasts so many turns
     let mut turns = u64::MAX;
     while turns > 0 {
-        let w = go(kept, held, fd, name, buf, words, marks, answers, out);
+        let w = go(
+            kept, held, input, name, output, errors, buf, words, marks, answers, out,
+        );
         if !w.on {
             return;
         }
@@ -108,15 +124,17 @@ fn run(
 
 // Makes the lists once: to make them for each turn costs as much as an eighth of a line. With room for 2,048 lines a turn
 // answers all readable lines that the buffer holds, since none is shorter than 16 bytes.
-fn answer(fd: i32, name: &[u8]) {
+fn answer<R: Read>(rt: &HostRuntime, input: &mut R, name: &[u8]) {
     let mut buf = [0u8; 32768];
     let mut words = [0u32; 16384];
     let mut marks = [0u8; 2048];
     let mut answers = [0u32; 6144];
     let mut out = [0u8; 67584];
     run(
-        fd,
+        input,
         name,
+        &mut rt.stdout(),
+        &mut rt.stderr(),
         &mut buf,
         &mut words,
         &mut marks,
@@ -126,30 +144,36 @@ fn answer(fd: i32, name: &[u8]) {
 }
 
 // Answers the file of that name.
-fn answer_file() {
-    let mut path = io::buffer();
-    let n = os::arg(1, &mut path);
-    if os::errno() != 0 {
-        told(b"the file's name");
-        return;
+fn answer_file(rt: &HostRuntime, name: &[u8]) {
+    match streams::open(rt, name) {
+        Ok(file) => {
+            let mut input = file;
+            answer(rt, &mut input, name);
+        }
+        Err(why) => told(&mut rt.stderr(), name, &why),
     }
-    let fd = os::open_read(&path[..n]);
-    if fd < 0 {
-        told(&path[..n]);
-        return;
-    }
-    answer(fd, &path[..n]);
 }
 
-fn main() {
-    let words = os::arg_count();
-    if words > 2 {
-        usage();
+// Whether the program is called with this word or more; word 0 is its own name.
+fn has_word<V: Env>(env: &V, i: usize, room: &mut [u8]) -> bool {
+    match env.arg(i, room) {
+        Err(FillError::NotPresent) => false,
+        _ => true,
+    }
+}
+
+fn main(rt: HostRuntime) {
+    let mut path = [0u8; MOST];
+    if has_word(&rt, 2, &mut path) {
+        usage(&mut rt.stderr());
         return;
     }
-    if words == 2 {
-        answer_file();
-        return;
+    match rt.arg(1, &mut path) {
+        Ok(n) => answer_file(&rt, &path[..n]),
+        Err(FillError::TooLong) => {
+            let why = io::Error::from_raw_os_error(TOO_LONG);
+            told(&mut rt.stderr(), b"the file's name", &why);
+        }
+        Err(FillError::NotPresent) => answer(&rt, &mut rt.stdin(), b"standard input"),
     }
-    answer(0, b"standard input");
 }
