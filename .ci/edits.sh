@@ -14,7 +14,7 @@ replace() {
         }' "$1" >"$1.edited" && mv "$1.edited" "$1"
 }
 
-# applies the edit in file $2 to the crate in folder $1, to files of its folder $3; prints what is wrong with it
+# applies the edit in file $2 to the crate in folder $1, to files of its folders $3; prints what is wrong with it
 apply() {
     file='' old='' pairs=0
     while IFS= read -r line || [ -n "$line" ]; do
@@ -23,7 +23,7 @@ apply() {
         'old: '*) old=${line#old: } ;;
         'new:'*)
             new=${line#new:}
-            case $file in "$3"/*) ;; *) echo "'$file' is not a file of $3/" && return 1 ;; esac
+            case " $3 " in *" ${file%%/*} "*) ;; *) echo "'$file' is not a file of $3" && return 1 ;; esac
             [ -f "$1/$file" ] || { echo "no file $file" && return 1; }
             replace "$1/$file" "$old" "${new# }" || { echo "the old text is not once in $file" && return 1; }
             old='' pairs=$((pairs + 1))
@@ -33,15 +33,40 @@ apply() {
     [ "$pairs" -gt 0 ] || { echo 'it has no pair of old and new' && return 1; }
 }
 
-# sets `at` to the place that the edit in file $2 names; prints what is wrong with it or with the log $1 of its check: a
-# refusal for a name that is gone, a term that is not found or a limit of the prover tells of no fact that fails
+# sets `at` to the place that the edit in file $2 names; prints what is wrong with it or with the log $1 of its check. The log
+# has to tell of a fact that fails: an error or an open goal. A refusal for a name that is gone (goals are named by the code), a
+# term that is not found or a limit of the prover tells of none, nor does an error that only follows from another
 at_of() {
     at=$(sed -n 's/^at: //p' "$2")
     [ -n "$at" ] || { echo 'it does not say where it is refused' && return 1; }
-    grep -q '^logic=not-proved' "$1" || { echo "the prover did not run: $(tail -n 1 "$1")" && return 1; }
-    grep -m 1 -e 'met a bound' -e 'resource limit' "$1" && return 1
-    ! grep ': error' "$1" | grep -v 'was not admitted' | head -n 1 | grep -e 'not in scope' -e 'no occurrence of' -e 'no equation of'
+    grep -q '^logic=not-proved' "$1" || { echo "the prover did not run: $(grep -m 1 'error' "$1" || tail -n 1 "$1")" && return 1; }
+    grep -m 1 -e 'met a bound' -e 'resource limit' -e 'antt ran out of' -e 'outgrew the memory limit' -e 'stopped at the step limit' "$1" && return 1
+    grep -e '^[^ ]*: error' -e '^note: .*it is not proved that' "$1" | grep -v -e ' not checked: ' -e 'exports no' >"$1.told"
+    is_fact "$1.told" || { echo "no fact fails: $(head -n 1 "$1.told")" && return 1; }
 }
+
+# whether a line of file $1 tells of a fact that fails
+is_fact() {
+    grep -q -v -e 'not in scope' -e 'has no field' -e 'is no name' -e 'can be named' -e 'no occurrence of' -e 'no equation of' -e 'gave up at one of its limits' "$1"
+}
+
+# how many checks at a time: as many as there are processors, and 3 GB of memory for each
+at_once() {
+    n=$(nproc 2>/dev/null || getconf _NPROCESSORS_ONLN)
+    free=$(awk '/^MemAvailable:/ { print int($2 / 3000000) }' /proc/meminfo 2>/dev/null)
+    [ "${free:-$n}" -ge "$n" ] || n=$free
+    [ "$n" -ge 1 ] || n=1
+    echo "$n"
+}
+
+# copies the folder $1 of what a check kept to $2, what was proved by links: a check replaces such a file, and changes none
+linked() {
+    cp -Rl "$1" "$2" || return 1
+    find "$2" -type f ! -name '*.oantt' -exec sh -c 'for f; do cp -p "$f" "$f-" && mv "$f-" "$f" || exit 1; done' sh {} +
+}
+
+# true the first time that it is called with $1: of several that go through one list, one takes each
+taken() { mkdir "$work/taken.$1" 2>/dev/null; }
 
 # the crate, the folder and the name of the edit in file $1
 key() { printf '%s\n' "${1#"$root"/crates/}" | sed 's|\.edit$||; s|/|.|g'; }
