@@ -34,20 +34,22 @@ apply() {
 }
 
 # sets `at` to the place that the edit in file $2 names; prints what is wrong with it or with the log $1 of its check. The log
-# has to tell of a fact that fails: an error or an open goal. A refusal for a name that is gone (goals are named by the code), a
-# term that is not found or a limit of the prover tells of none, nor does an error that only follows from another
+# has to tell of a fact that fails: an error or an open goal, but for an error that only follows from another, a term that is not
+# found and a limit of the prover. It may tell of no name that is gone: goals are named by the code, so beside a gone name an open
+# goal may be true, and have lost its answer alone
 at_of() {
     at=$(sed -n 's/^at: //p' "$2")
     [ -n "$at" ] || { echo 'it does not say where it is refused' && return 1; }
     grep -q '^logic=not-proved' "$1" || { echo "the prover did not run: $(grep -m 1 'error' "$1" || tail -n 1 "$1")" && return 1; }
     grep -m 1 -e 'met a bound' -e 'resource limit' -e 'antt ran out of' -e 'outgrew the memory limit' -e 'stopped at the step limit' "$1" && return 1
     grep -e '^[^ ]*: error' -e '^note: .*it is not proved that' "$1" | grep -v -e ' not checked: ' -e 'exports no' >"$1.told"
+    grep -m 1 -e 'not in scope' -e 'has no field' -e 'is no name' -e 'can be named' "$1.told" && return 1
     is_fact "$1.told" || { echo "no fact fails: $(head -n 1 "$1.told")" && return 1; }
 }
 
 # whether a line of file $1 tells of a fact that fails
 is_fact() {
-    grep -q -v -e 'not in scope' -e 'has no field' -e 'is no name' -e 'can be named' -e 'no occurrence of' -e 'no equation of' -e 'gave up at one of its limits' "$1"
+    grep -q -v -e 'no occurrence of' -e 'no equation of' -e 'gave up at one of its limits' "$1"
 }
 
 # how many checks at a time: as many as there are processors, and 3 GB of memory for each
