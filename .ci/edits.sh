@@ -47,9 +47,10 @@ at_of() {
     is_fact "$1.told" || { echo "no fact fails: $(head -n 1 "$1.told")" && return 1; }
 }
 
-# whether a line of file $1 tells of a fact that fails
+# whether a line of file $1 tells of a fact that fails: such an error names what it is in, and one of a text that cannot be read
+# does not
 is_fact() {
-    grep -q -v -e 'no occurrence of' -e 'no equation of' -e 'gave up at one of its limits' "$1"
+    grep -e '^note: ' -e ': error: `[^`]*`: ' "$1" | grep -q -v -e 'no occurrence of' -e 'no equation of' -e 'gave up at one of its limits'
 }
 
 # how many checks at a time: as many as there are processors, and 3 GB of memory for each
