@@ -1,4 +1,5 @@
 pub mod Types
+pub mod Kinds
 pub mod Tools
 pub mod Cells
 pub mod States

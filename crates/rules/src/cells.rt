@@ -1,7 +1,7 @@
 // What one node holds of one line.
 use crate::numbers::Count;
 
-#[derive(Clone, Copy)]
+#[derive(Clone, Copy, PartialEq, Eq)]
 pub enum Want {
     Nothing,
     Read,

@@ -7,24 +7,19 @@ use crate::cells::{Cell, Want};
 use crate::messages::{Message, MessageKind};
 use crate::numbers::{Count, Serial};
 
-pub fn is_nothing(want: Want) -> bool
-    ensures { result ≡ is_nothing want }
-{
-    match want {
-        Want::Nothing => true,
-        Want::Read => false,
-        Want::Write => false,
+impl Want {
+    pub fn is_nothing(self) -> bool
+        ensures { result ≡ is_nothing self }
+    {
+        matches!(self, Want::Nothing)
     }
 }
 
-pub fn is_free(kind: MessageKind) -> bool
-    ensures { result ≡ is_free kind }
-{
-    match kind {
-        MessageKind::Free => true,
-        MessageKind::Tokens => false,
-        MessageKind::OwnershipAck => false,
-        MessageKind::DeletionAck => false,
+impl MessageKind {
+    pub fn is_free(self) -> bool
+        ensures { result ≡ is_free self }
+    {
+        matches!(self, MessageKind::Free)
     }
 }
 

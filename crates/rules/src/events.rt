@@ -1,6 +1,11 @@
 // What goes into a step and a batch, and what comes back.
+ghost use Rattle.std.specs.Prelude.{◌≡◌};
+ghost use Rattle.rules.specs.Effects.{answer};
+ghost use Rattle.rules.specs.Kinds.{number_of};
+
 use crate::cells::Cell;
 use crate::messages::MessageKind;
+use crate::refusals::Refusal;
 use crate::states::State;
 
 // The eight words of an event record. `amount` is the amount of a send and the slot of a delivery or a drop;
@@ -22,6 +27,19 @@ pub struct Answer {
     pub number: u32,
     pub word: u32,
     pub slot: u32,
+}
+
+impl Answer {
+    // The answer to an event that is refused: the number of the reason, word 0, slot 64.
+    pub fn refused(why: Refusal) -> Answer
+        ensures { result ≡ answer (number_of why) 0 64 }
+    {
+        Answer {
+            number: why.number(),
+            word: 0,
+            slot: 64,
+        }
+    }
 }
 
 // What a delivery leaves: the cell that the message is for, the kind of the reply that stands in the slot (free: none), the answer.

@@ -2,7 +2,7 @@
 use crate::numbers::{Count, Serial};
 
 // Free is the kind of an empty slot.
-#[derive(Clone, Copy)]
+#[derive(Clone, Copy, PartialEq, Eq)]
 pub enum MessageKind {
     Free,
     Tokens,

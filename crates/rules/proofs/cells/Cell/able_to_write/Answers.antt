@@ -1,7 +1,0 @@
-use Rattle.rules.specs.Cells.{able_to_write}
-use mathlib.Core.Path.{refl}
-use Rattle.rules.proofs.cells.Cell.able_to_write.Goals as goal
-
-pub returns : goal.returns
-unfolding able_to_write
-returns c = refl
