@@ -1,5 +1,5 @@
 -- Where a line ends. Assumes nothing.
-use Prim.Native.Nat.{ℕ, zero, suc, ◌+◌, ◌≤◌, ◌<◌}
+use Prim.Native.Nat.{ℕ, zero, suc, ◌+◌, ◌≤◌, ◌<◌, max}
 use mathlib.Core.Path.{◌≡◌, refl, sym, ap, ◌∙◌}
 use mathlib.Core.Bool.{Bool, true, false, not, cond as pick, ◌&&◌}
 use mathlib.Core.List.{List, [], ◌∷◌, ◌++◌}
@@ -52,6 +52,15 @@ tab_in s i e = by (leb (length s) i) refl
 pub passed_none : (s : List ℕ) (i : ℕ) → length s ≤ i → passed (drop i s) ≡ 0
 unfolding passed
 passed_none s i h = rw (drop_of_length-le s h)
+
+-- a search for a line feed that came to the end of input
+pub passed_past : (s : List ℕ) (from i : ℕ) → length s ≤ i → (from ≤ length s → i ≤ length s) → i + passed (drop i s) ≡ from + passed (drop from s)
+    → max from (length s) ≡ from + passed (drop from s)
+passed_past s from i h k e = by (leb from (length s)) refl
+  where
+    by : (t : Bool) → leb from (length s) ≡ t → max from (length s) ≡ from + passed (drop from s)
+    by true f = let l = k (leb-true _ _ f) in let z = passed_none s i h in omega arith
+    by false f = let l = leb-false from (length s) f in let z = passed_none s i h in let y = passed_none s from (omega arith) in omega arith
 
 pub first_none : (s : List ℕ) (i : ℕ) → length s ≤ i → first_line (drop i s) ≡ []
 unfolding first_line
