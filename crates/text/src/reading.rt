@@ -20,12 +20,13 @@ pub struct Taken {
 pub(crate) fn next_line(s: &[u8], from: usize) -> usize
     ensures { result ≡ from + passed (drop from s.now) }
 {
-    for i in from..s.len() {
-        if s[i] == 10 {
-            return i + 1;
-        }
+    let Some(rest) = s.get(from..) else {
+        return from;
+    };
+    match rest.iter().position(|b| *b == 10) {
+        Some(feed) => from + feed + 1,
+        None => s.len(),
     }
-    from.max(s.len())
 }
 
 // A line that is not readable, seen at a place.

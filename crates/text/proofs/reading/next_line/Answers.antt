@@ -1,20 +1,20 @@
-use mathlib.Core.Path.{sym, ◌∙◌}
+use Prim.Native.Nat.{◌<◌}
 use native.Mathlib.Omega.{arith}
-use Rattle.text.proofs.Lines.{passed_end, passed_more, passed_past}
+use borrow.Author.Rules.{rules}
+use lib.ListN.{length}
+use Rattle.text.proofs.Lines.{passed_none, next_found, next_none}
 use Rattle.text.proofs.reading.next_line.Goals as goal
 
-pub returns-then-s-i-eq10 : goal.returns-then-s-i-eq10
-returns-then-s-i-eq10 c =
-    let l = c.loop-i in
-    let e = passed_end c.args.s.now l.i (omega arith) c.if-s-i-eq10.true in
+pub returns-in_default : goal.returns-in_default
+returns-in_default c =
+    let a = c.args in
+    let h : length a.s.now < a.from = search rules in
+    let e = passed_none a.s.now a.from (omega arith) in
     omega arith
 
-pub loop-i-preserved : goal.loop-i-preserved
-loop-i-preserved c =
-    let l = c.loop-i in
-    sym (passed_more _ l.i (omega arith) c.if-s-i-eq10.false) ∙ l.invariant
+pub returns-in-Some-position : goal.returns-in-Some-position
+returns-in-Some-position c =
+    next_found c.args.s.now c.in-Some.rest.now _ c.in-Some-position.feed (search rules) (search rules) (search rules) (search rules)
 
-pub returns : goal.returns
-returns c =
-    let l = c.loop-i in
-    c.max.ensures ∙ passed_past _ _ l.i (omega arith) (λ h. omega (arith, l.auto.i-end h)) l.invariant
+pub returns-in-None : goal.returns-in-None
+returns-in-None c = next_none c.args.s.now c.in-Some.rest.now c.args.from (search rules) (search rules) (search rules)
