@@ -114,14 +114,12 @@ pub fn take(s: &[u8], from: usize) -> Taken
     if s.len() < from {
         return skip(s, from);
     }
-    if from + 16 <= s.len() {
-        if is_plain(s, from) {
-            return Taken {
-                count: 8,
-                words: plain_words(s, from),
-                next: from + 16,
-            };
-        }
+    if from + 16 <= s.len() && is_plain(s, from) {
+        return Taken {
+            count: 8,
+            words: plain_words(s, from),
+            next: from + 16,
+        };
     }
     take_fields(s, from)
 }
