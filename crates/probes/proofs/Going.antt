@@ -4,8 +4,8 @@ use mathlib.Core.Path.{◌≡◌, refl, sym, ap, ◌∙◌}
 use mathlib.Core.Bool.{Bool, true, false}
 use mathlib.Core.List.{List, [], ◌∷◌, ◌++◌, append-nil}
 use native.Mathlib.Omega.{arith}
-use lib.ListN.{length, take, drop, length-append}
-use lib.Seq.{drop-drop, length-take-le}
+use lib.ListN.{length, get_or, take, drop, length-append}
+use lib.Seq.{drop-drop, length-take-le, take_all}
 use Rattle.std.proofs.Common.{append_assoc, ◌⊎◌, ⊎_elim}
 use Rattle.std.proofs.lemmas.List.{take-append-drop}
 use Rattle.probes.specs.Records.{words_of, time_of}
@@ -29,6 +29,11 @@ nothing_left [] vs n = (true, first_used_up vs)
 nothing_left (u ∷ us) [] n = (false, second_used_up u us)
 nothing_left (u ∷ us) (v ∷ vs) n = absurd (⊎_elim (λ e. omega arith) (λ e. omega arith) n)
 
+-- a list is its first record and the others
+cut : (us us' : List (List ℕ)) → 0 < length us → us' ≡ take (length us - 1) (drop 1 us) → us ≡ get_or us 0 [] ∷ us'
+cut [] us' h e = absurd (omega arith)
+cut (u ∷ us) us' h e = ap (λ (l : List (List ℕ)). u ∷ l) (sym (e ∙ take_all (length (u ∷ us) - 1) us (omega arith)))
+
 pub begun : (xs ys : List (List ℕ)) (third : List ℕ) → Going xs ys xs ys third third 0
 begun xs ys third =
     record { first_in = omega arith; second_in = omega arith; place = omega arith; words = refl; kept = refl; firsts = refl; seconds = refl }
@@ -45,10 +50,9 @@ module _ (xs ys us vs : List (List ℕ)) (third₀ third : List ℕ) (at : ℕ) 
     still : drop (at + 9) third' ≡ drop (at + 9) third₀
     still = k ∙ sym (drop-drop 9 at third) ∙ ap (drop 9) g.kept ∙ drop-drop 9 at third₀
 
-    -- the first list's record is put
-    pub first_put : (us' : List (List ℕ)) (v : List ℕ) (vs' : List (List ℕ)) → us ≡ r ∷ us' → vs ≡ v ∷ vs' → time_of r ≤ time_of v
+    put_first : (us' : List (List ℕ)) (v : List ℕ) (vs' : List (List ℕ)) → us ≡ r ∷ us' → vs ≡ v ∷ vs' → time_of r ≤ time_of v
         → Going xs ys us' vs third₀ third' (at + 9)
-    first_put us' v vs' e f l =
+    put_first us' v vs' e f l =
         let j : joined us vs ≡ by_first r (joined us' vs) = rw (e, f) (first_next r us' v vs' l) in
         let n = ap length e in
         let i = ap (λ (x : Joined). x.firsts) j in
@@ -63,10 +67,9 @@ module _ (xs ys us vs : List (List ℕ)) (third₀ third : List ℕ) (at : ℕ) 
           seconds = omega arith;
         }
 
-    -- the second list's record is put
-    pub second_put : (u : List ℕ) (us' vs' : List (List ℕ)) → us ≡ u ∷ us' → vs ≡ r ∷ vs' → time_of r < time_of u
+    put_second : (u : List ℕ) (us' vs' : List (List ℕ)) → us ≡ u ∷ us' → vs ≡ r ∷ vs' → time_of r < time_of u
         → Going xs ys us vs' third₀ third' (at + 9)
-    second_put u us' vs' e f l =
+    put_second u us' vs' e f l =
         let j : joined us vs ≡ by_second r (joined us vs') = rw (e, f) (second_next u us' r vs' l) in
         let n = ap length f in
         let i = ap (λ (x : Joined). x.firsts) j in
@@ -80,6 +83,17 @@ module _ (xs ys us vs : List (List ℕ)) (third₀ third : List ℕ) (at : ℕ) 
           firsts = omega arith;
           seconds = omega arith;
         }
+
+  module _ (h : 0 < length us) (k : 0 < length vs) (third' : List ℕ) where
+    -- the first list's record is put
+    pub first_put : (us' : List (List ℕ)) → us' ≡ take (length us - 1) (drop 1 us) → take (at + 9) third' ≡ take at third ++ get_or us 0 []
+        → drop (at + 9) third' ≡ drop (at + 9) third → time_of (get_or us 0 []) ≤ time_of (get_or vs 0 []) → Going xs ys us' vs third₀ third' (at + 9)
+    first_put us' e w s l = put_first (get_or us 0 []) third' w s us' (get_or vs 0 []) _ (cut us us' h e) (cut vs _ k refl) l
+
+    -- the second list's record is put
+    pub second_put : (vs' : List (List ℕ)) → vs' ≡ take (length vs - 1) (drop 1 vs) → take (at + 9) third' ≡ take at third ++ get_or vs 0 []
+        → drop (at + 9) third' ≡ drop (at + 9) third → time_of (get_or vs 0 []) < time_of (get_or us 0 []) → Going xs ys us vs' third₀ third' (at + 9)
+    second_put vs' e w s l = put_second (get_or vs 0 []) third' w s (get_or us 0 []) _ vs' (cut us _ h refl) (cut vs vs' k e) l
 
   -- one list is used up
   pub ended : (length us ≡ 0) ⊎ (length vs ≡ 0) → at ≤ length third

@@ -58,12 +58,15 @@ fn merge(first: &[[u32; 9]], second: &[[u32; 9]], third: &mut [u32]) -> Taken
     let mut firsts = first;
     let mut seconds = second;
     let mut at = 0;
-    while let (Some((a, after_a)), Some((b, after_b))) = (firsts.split_first(), seconds.split_first()) {
+    while let [a, after_a @ ..] = firsts {
+        let [b, after_b @ ..] = seconds else {
+            break;
+        };
         if a[0] <= b[0] {
-            put(third, at, a);
+            put(third, at, *a);
             firsts = after_a;
         } else {
-            put(third, at, b);
+            put(third, at, *b);
             seconds = after_b;
         }
         at += 9;
