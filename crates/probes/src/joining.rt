@@ -63,10 +63,10 @@ fn merge(first: &[[u32; 9]], second: &[[u32; 9]], third: &mut [u32]) -> Taken
             break;
         };
         if a[0] <= b[0] {
-            put(third, at, *a);
+            put(third, at, a);
             firsts = after_a;
         } else {
-            put(third, at, *b);
+            put(third, at, b);
             seconds = after_b;
         }
         at += 9;

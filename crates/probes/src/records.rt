@@ -18,12 +18,13 @@ pub(crate) fn time_falls(records: &[[u32; 9]]) -> bool
 }
 
 // Puts a record at place `at`.
-pub(crate) fn put(words: &mut [u32], at: usize, record: [u32; 9])
+pub(crate) fn put(words: &mut [u32], at: usize, record: &[u32; 9])
     requires { at + 9 ≤ length words.old }
-    ensures written { take (at + 9) words.new ≡ take at words.old ++ «record» }
+    ensures written { take (at + 9) words.new ≡ take at words.old ++ «record».now }
     ensures kept { drop (at + 9) words.new ≡ drop (at + 9) words.old }
 {
+    let whole = *record;
     for k in 0..9 {
-        words[at + k] = record[k];
+        words[at + k] = whole[k];
     }
 }

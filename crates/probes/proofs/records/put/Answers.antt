@@ -7,6 +7,6 @@ loop-k-preserved c =
     let l = c.loop-k in
     let p = c.args in
     record {
-      written = word_written p.words.now l.words p.«record» p.at l.k (omega arith) (omega arith) l.invariant.written;
-      kept = word_kept p.words.now l.words p.«record» p.at l.k (omega arith) _ l.invariant.kept;
+      written = word_written p.words.now l.words p.«record».now p.at l.k (omega arith) (omega arith) l.invariant.written;
+      kept = word_kept p.words.now l.words p.«record».now p.at l.k (omega arith) _ l.invariant.kept;
     }
