@@ -6,15 +6,11 @@ use mathlib.Core.List.{List, [], ◌∷◌}
 use native.Mathlib.Omega.{arith}
 use native.Mathlib.Numerals.{add-one}
 use Rattle.std.proofs.Common.{rules}
-use borrow.Author.Tests.{lt-ltb, le-ltb}
+use borrow.Author.Tests.{leb-true, leb-false, lt-ltb, le-ltb}
+use lib.Dec.{leb}
 use lib.ListN.{length, get_or}
 use Rattle.std.specs.List.{IsAllAdjacentAnswer}
-use Rattle.std.specs.Ordering.{is_le, nat_cmp}
-use Rattle.std.proofs.lemmas.Map.Keys.{le_from_is_le}
 use Rattle.probes.specs.Records.{time_of, falls_after, falls}
-
-above : (a b : ℕ) → is_le (nat_cmp a b) ≡ false → b < a
-above a b e = grind arith
 
 -- where no time is above the next, none falls
 none_after : (r : List ℕ) (rs : List (List ℕ)) → ((k : ℕ) → suc k < length (r ∷ rs) → time_of (get_or (r ∷ rs) k []) ≤ time_of (get_or rs k []))
@@ -31,16 +27,16 @@ one_after k r [] l h = absurd (omega arith)
 one_after zero r (x ∷ xs) l h = rw (lt-ltb _ _ h) refl
 one_after (suc k) r (x ∷ xs) l h = rw (one_after k x xs (omega arith) h) (search rules)
 
-le_next : (r : List ℕ) (rs : List (List ℕ)) (k : ℕ) → true ≡ is_le (nat_cmp (time_of (get_or (r ∷ rs) k [])) (time_of (get_or (r ∷ rs) (k + 1) [])))
+le_next : (r : List ℕ) (rs : List (List ℕ)) (k : ℕ) → true ≡ leb (time_of (get_or (r ∷ rs) k [])) (time_of (get_or (r ∷ rs) (k + 1) []))
     → time_of (get_or (r ∷ rs) k []) ≤ time_of (get_or rs k [])
-le_next r rs k e = le_from_is_le _ _ (sym (rw add-one at e))
+le_next r rs k e = leb-true _ _ (sym (rw add-one at e))
 
-gt_next : (r : List ℕ) (rs : List (List ℕ)) (k : ℕ) → false ≡ is_le (nat_cmp (time_of (get_or (r ∷ rs) k [])) (time_of (get_or (r ∷ rs) (k + 1) [])))
+gt_next : (r : List ℕ) (rs : List (List ℕ)) (k : ℕ) → false ≡ leb (time_of (get_or (r ∷ rs) k [])) (time_of (get_or (r ∷ rs) (k + 1) []))
     → time_of (get_or rs k []) < time_of (get_or (r ∷ rs) k [])
-gt_next r rs k e = above _ _ (sym (rw add-one at e))
+gt_next r rs k e = leb-false _ _ (sym (rw add-one at e))
 
 -- what the library says of times in order
-pub falls_told : (rs : List (List ℕ)) (d : Bool) → IsAllAdjacentAnswer (λ x y b. b ≡ is_le (nat_cmp (time_of x) (time_of y))) rs d → not d ≡ falls rs
+pub falls_told : (rs : List (List ℕ)) (d : Bool) → IsAllAdjacentAnswer (λ x y b. b ≡ leb (time_of x) (time_of y)) rs d → not d ≡ falls rs
 unfolding falls_after
 falls_told [] true h = refl
 falls_told [] false (k, l, h) = absurd (omega arith)

@@ -14,7 +14,7 @@ pub(crate) fn records(words: &[u32]) -> &[[u32; 9]]
 pub(crate) fn time_falls(records: &[[u32; 9]]) -> bool
     ensures { result ≡ falls records.now }
 {
-    !records.is_sorted_by_key(|record| record[0])
+    !records.is_sorted_by(|a, b| a[0] <= b[0])
 }
 
 // Puts a record at place `at`.
