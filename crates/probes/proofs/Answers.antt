@@ -1,13 +1,12 @@
 -- What `join` answers, from what was found and what was merged. Assumes nothing.
-use Prim.Native.Nat.{ℕ, ◌+◌, ◌-◌, ◌*◌, ◌≤◌}
+use Prim.Native.Nat.{ℕ, ◌+◌, ◌-◌, ◌*◌}
 use mathlib.Core.Path.{◌≡◌, refl, sym, ◌∙◌}
-use mathlib.Core.Bool.{true, false}
+use mathlib.Core.Bool.{false}
 use mathlib.Core.List.{List, ◌++◌}
 use native.Mathlib.Omega.{arith}
-use native.Mathlib.Nat.{zero-add}
 use borrow.Author.Tests.{eq-eqb, ne_eqb}
 use lib.ListN.{length, take, drop, length-drop}
-use lib.Seq.{sets, sets-eq, take_all}
+use lib.Seq.{take_all}
 use denote.Ref.{Bor}
 use Rattle.probes.specs.declared.joining.Taken.{Taken}
 use Rattle.probes.specs.Records.{records_of, words_of}
@@ -15,7 +14,7 @@ use Rattle.probes.specs.Joins.{Joined, stop, joined, number_of, join_of, From, R
 use Rattle.probes.specs.Parts.{Merges}
 use Rattle.probes.proofs.Refusals.{Accepted, accepted}
 use Rattle.probes.proofs.Merging.{done_told}
-use Rattle.probes.proofs.Words.{all_nine, words_taken, so_many}
+use Rattle.probes.proofs.Words.{all_nine, words_taken}
 
 -- `&s[k..]` is s from its word k on
 pub tail : (s : Bor (List ℕ)) (k : ℕ) (r : Bor (List ℕ)) → r.now ≡ take (length s.now - k) (drop k s.now) → r.ref_ptr.0 ≡ s.ref_ptr.0
@@ -44,11 +43,8 @@ module _ (a b : Bor (List ℕ)) (third : List ℕ) (n : ℕ) (e : n ≡ number_o
     unfolding join_of
     took = rw (← e, z)
 
-    pub both_fit : 9 * (length (records_of a.now) + length (records_of b.now)) ≤ length third
-    both_fit = let f = known.fits in simp so_many (omega arith)
-
     module _ (third' : List ℕ) (t : Taken) (g : Merges (records_of a.now) (records_of b.now) third third' t) where
-      pub taken : 9 * (t.first + t.second) ≡ length (words_of (joined (records_of a.now) (records_of b.now)).written)
+      taken : 9 * (t.first + t.second) ≡ length (words_of (joined (records_of a.now) (records_of b.now)).written)
       taken = rw (g.firsts, g.seconds) (sym (words_taken _ _ (all_nine a.now) (all_nine b.now)))
 
       module _ (r : Bor (List ℕ)) where

@@ -5,7 +5,7 @@ ghost use Rattle.probes.specs.Parts.{Merges};
 
 use crate::records::{put, records, time_falls};
 
-/// Why a join is refused: a list whose length is no multiple of nine, a third list that cannot hold both, a time that falls.
+// Why a join is refused: a list whose length is no multiple of nine, a third list that cannot hold both, a time that falls.
 #[derive(Clone, Copy, PartialEq, Eq, Debug)]
 pub enum Refusal {
     Uneven,
@@ -14,7 +14,7 @@ pub enum Refusal {
 }
 
 impl Refusal {
-    // The refusal's number.
+    // The number that the paper gives it.
     pub fn number(self) -> u32
         ensures { result ≡ number_for self }
     {

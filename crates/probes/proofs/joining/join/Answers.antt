@@ -22,7 +22,7 @@ returns c =
     let p = c.args in
     let g = rw (c.records-firsts.ensures.cut, c.records-seconds.ensures.cut) at m.ensures in
     elim c.if-taken-firsts.branch [
-      then-taken-firsts w ↦
+      | then-taken-firsts w ↦
           second_rest p.first p.second p.third.now 0 c.in_default.ensures refl m.new.third m.result g _
           (rw c.records-firsts.ensures.cut at w.if-taken-firsts.true) (rw w.rest-is (tail p.second _ _ refl refl refl))
       | else-taken-firsts w ↦

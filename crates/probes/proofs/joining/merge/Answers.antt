@@ -11,7 +11,7 @@ loop-firsts-preserved c =
     let h = c.in-len1-up.len_at_least in
     let k = c.in-len1-up-seconds.len_at_least in
     elim c.if-a-b.branch [
-      then-a-b w ↦
+      | then-a-b w ↦
           rw (w.third-is, w.firsts-is, w.seconds-is)
           (first_put _ _ _ _ _ _ _ g (omega arith) (omega arith) _ _ refl w.put.ensures.written w.put.ensures.kept w.if-a-b.true)
       | else-a-b w ↦
@@ -23,6 +23,6 @@ pub returns : goal.returns
 returns c =
     let g = c.loop-firsts.invariant in
     elim c.if-firsts-lt1.branch [
-      in_default w ↦ ended _ _ _ _ _ _ _ g (inl (omega arith)) (omega arith)
+      | in_default w ↦ ended _ _ _ _ _ _ _ g (inl (omega arith)) (omega arith)
       | in-len1-up+in_default-seconds w ↦ ended _ _ _ _ _ _ _ g (inr (omega arith)) (omega arith)
     ]
