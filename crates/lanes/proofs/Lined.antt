@@ -196,8 +196,8 @@ module _ (s words₀ : List ℕ) (t₀ k j : ℕ) (f : Filled) (words : List ℕ
               number = rw next_is (ap (λ (y : Read). y.number) (sym l) ∙ g.number);
               stored =
                   rw (next_is, b, w) (sym (sets_append x (words_of later.records) words (9 * j))
-                      ∙ ap (λ (y : Read). sets words (9 * j) (words_of y.records)) (sym l)
-                      ∙ g.stored);
+                  ∙ ap (λ (y : Read). sets words (9 * j) (words_of y.records)) (sym l)
+                  ∙ g.stored);
             }
 
   -- the room or the input is used up

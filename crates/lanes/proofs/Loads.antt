@@ -1,19 +1,17 @@
 -- A part of a file as it stands in the buffer. Assumes nothing.
 use Prim.Native.Nat.{ℕ, ◌-◌, ◌/◌, ◌≤◌, min}
 use mathlib.Core.Path.{◌≡◌, refl, sym, ap, ◌∙◌}
-use mathlib.Core.Bool.{Bool, true, false, ◌&&◌, cond as pick}
+use mathlib.Core.Bool.{Bool, true, false, cond as pick}
 use mathlib.Core.List.{List, [], ◌∷◌}
 use mathlib.Core.Option.{Option, none, some}
 use native.Mathlib.Omega.{arith}
-use lib.Dec.{eqb, leb, ltb}
+use lib.Dec.{ltb}
 use lib.ListN.{length, take, drop, length-take}
-use lib.Seq.{sets, take-length, take-take}
+use lib.Seq.{sets, take-take}
 use Rattle.text.specs.Lines.{lines_of, passed_by}
 use Rattle.text.specs.Nines.{nine_in}
 use Rattle.text.proofs.Sequences.{passed_by_within}
-use Rattle.held.specs.Wholes.{whole_of}
 use Rattle.held.specs.Moves.{piece}
-use Rattle.held.proofs.Wholes.{cut}
 use Rattle.held.proofs.Fronts.{Front, take_least, between}
 use Rattle.probes.specs.Records.{words_of, time_of}
 use Rattle.lanes.specs.declared.filling.Filled.{Filled}
@@ -21,20 +19,6 @@ use Rattle.lanes.specs.Files.{Read, stopped, begun, read_line, read_lines}
 use Rattle.lanes.specs.Refusals.{number_of_line, number_in, line_refused}
 use Rattle.lanes.specs.Parts.{ready_part, read_in, part_read, unread, loaded, Loads}
 use Rattle.lanes.specs.Steps.{filled}
-
-module _ (s : List ℕ) (last : Bool) (room : ℕ) where
-  pub ready_last : last ≡ true → Front s (length s) (ready_part last room s)
-  unfolding ready_part
-  ready_last e = (rw e (take-length s), omega arith)
-
-  module _ (w : ℕ) (e : last ≡ false) (f : w ≡ whole_of s) where
-    pub ready_full : eqb w 0 && leb room (length s) ≡ true → Front s (length s) (ready_part last room s)
-    unfolding ready_part
-    ready_full h = (rw (e, ← f, h) (take-length s), omega arith)
-
-    pub ready_whole : eqb w 0 && leb room (length s) ≡ false → Front s w (ready_part last room s)
-    unfolding ready_part
-    ready_whole h = (rw (e, ← f, h), let c = (cut s).within in omega arith)
 
 -- ---- the number of a line that is refused
 

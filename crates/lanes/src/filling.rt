@@ -37,6 +37,7 @@ pub(crate) struct Filled {
 }
 
 // The numbers of a line that comes after a time.
+#[tactic(auto, unfolding(crate::specs::Steps::accepted))]
 fn accept(numbers: Option<[u32; 9]>, last: u32) -> Result<[u32; 9], LineRefusal>
     ensures { result ≡ accepted numbers last }
 {

@@ -15,6 +15,7 @@ pub struct Loaded {
 }
 
 // How many bytes of `s` have lines that can be read, in a buffer of so much room.
+#[tactic(auto, unfolding(crate::specs::Parts::ready_part))]
 fn ready(s: &[u8], last: bool, room: usize) -> usize
     ensures bytes { take result s.now ≡ ready_part last room s.now }
     ensures within { result ≤ length s.now }
@@ -22,11 +23,11 @@ fn ready(s: &[u8], last: bool, room: usize) -> usize
     if last {
         return s.len();
     }
-    let w = whole(s);
-    if (w == 0) & (room <= s.len()) {
+    let end = whole(s);
+    if end == 0 && room <= s.len() {
         return s.len();
     }
-    w
+    end
 }
 
 // Reads lines of the first bytes of `buf` after a time as records into `words`, as many as there is room for, up to the first

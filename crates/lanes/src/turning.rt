@@ -83,17 +83,17 @@ fn move_rest(first: &mut [u32], second: &mut [u32], left: usize) -> Left
 }
 
 // Joins two lists by way of a third, puts the text of what is joined, and moves the rest to the front of its list.
-fn turn_both(
-    first: &mut [u32],
-    second: &mut [u32],
-    third: &mut [u32],
-    out: &mut [u8],
-) -> Turned
+fn turn_both(first: &mut [u32], second: &mut [u32], third: &mut [u32], out: &mut [u8]) -> Turned
     ensures { TurnsBoth first.old second.old third.old out.old first.new second.new third.new out.new result }
 {
     let n = first.len();
     let m = second.len();
-    let refused = |why| Turned { refused: Some(why), first: n, second: m, written: 0 };
+    let refused = |why| Turned {
+        refused: Some(why),
+        first: n,
+        second: m,
+        written: 0,
+    };
     if out.len() / 11 < n + m {
         return refused(Refusal::NoRoom);
     }

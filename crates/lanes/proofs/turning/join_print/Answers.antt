@@ -24,7 +24,7 @@ returns-then-is_empty c =
     let g = rw c.in_ok-count.was at j.ensures in
     let h : (length p.first.now ≡ 0) ⊎ (length p.second.now ≡ 0)
     = elim c.then-is_empty.branch [
-      then-is_empty-via-then-is_empty w ↦ inl (eqb-true _ _ (sym w.if-is_empty.ensures))
+      | then-is_empty-via-then-is_empty w ↦ inl (eqb-true _ _ (sym w.if-is_empty.ensures))
       | then-is_empty-via-else-is_empty+then-is_empty-2 w ↦ inr (eqb-true _ _ (sym w.if-is_empty-2.ensures))
     ] in
     prints_rest p.first p.second p.third.now _ _ _ j.result.rest g j.auto.third refl p.out.now _ _ h t.ensures.value t.ensures.out_after
