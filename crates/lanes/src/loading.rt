@@ -31,19 +31,20 @@ fn ready(s: &[u8], last: bool, room: usize) -> usize
 }
 
 // Reads lines of the first bytes of `buf` after a time as records into `words`, as many as there is room for, up to the first
-// that is refused; then moves the bytes that are still to be read to the front of `buf`.
+// that is refused; then moves the bytes that are still to be read to the front of `buf`. `held` stands beside `buf`, since all of
+// `buf` counts: it is the room that a line has.
 pub fn load(time: u32, buf: &mut [u8], held: usize, last: bool, words: &mut [u32]) -> Loaded
     ensures { Loads time buf.old held last words.old words.new buf.new result }
 {
     let room = buf.len();
     let to = held.min(room);
     let end = ready(&buf[..to], last, room);
-    let f = fill(time, &buf[..end], words);
-    let left = move_up(buf, f.next, to - f.next);
+    let filled = fill(time, &buf[..end], words);
+    let left = move_up(buf, filled.next, to - filled.next);
     Loaded {
-        count: f.count,
+        count: filled.count,
         held: left,
-        time: f.time,
-        refused: f.refused,
+        time: filled.time,
+        refused: filled.refused,
     }
 }
