@@ -3,8 +3,9 @@ use Prim.Native.Nat.{ℕ, ◌+◌, ◌-◌, ◌≤◌, ◌<◌, min}
 use mathlib.Core.Path.{◌≡◌, refl, sym, ◌∙◌}
 use mathlib.Core.List.{List, []}
 use native.Mathlib.Omega.{arith}
-use lib.ListN.{length, take, drop, length-drop, drop_of_length-le}
-use lib.Seq.{sets, sets-eq, paste, length-take-le, take_all}
+use lib.ListN.{length, drop, length-drop, drop_of_length-le}
+use lib.Seq.{sets, paste, length-take-le, take_all}
+use Rattle.text.proofs.Stores.{paste_sets}
 use Rattle.held.specs.Moves.{piece}
 use Rattle.held.proofs.Fronts.{take_least}
 
@@ -26,5 +27,4 @@ module _ {A : Type 0} where
       let l = length-drop from d in
       let m = length-take-le k (drop from d) (omega arith) in
       let j : from + k - from ≡ k = omega arith in
-      let q : 0 + length (take k (drop from d)) ≡ 0 + k = omega arith in
-      rw (← take_least n k (drop from d) (omega arith)) (sym m, w ∙ rw j (sym (sets-eq (take k (drop from d)) d 0 (omega arith) ∙ rw q)))
+      rw (← take_least n k (drop from d) (omega arith)) (sym m, w ∙ rw j (paste_sets d 0 (drop from d) k (omega arith) (omega arith)))
