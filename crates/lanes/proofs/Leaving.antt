@@ -8,6 +8,7 @@ use borrow.Author.Tests.{le-leb, lt-leb}
 use lib.Dec.{leb}
 use lib.ListN.{length, get_or, take, drop, length-drop}
 use lib.Seq.{sets, drop-length, get_or-drop, take-add, take-length}
+use Rattle.std.proofs.lemmas.List.{nil_from_length}
 use Rattle.held.specs.Moves.{piece}
 use Rattle.held.proofs.Copies.{Moved}
 use Rattle.probes.specs.Records.{records, records_of, words_of, time_of}
@@ -163,16 +164,12 @@ end_moves d left kept h e r d' g =
     = ap (λ (m : ℕ). take m (drop (length d - left) d)) (sym (l ∙ f)) ∙ take-length (drop (length d - left) d) ∙ sym e in
     (g.0 ∙ ap length p, g.1 ∙ ap (sets d 0) p)
 
-no_words : (s : List ℕ) → length s ≡ 0 → s ≡ []
-no_words [] h = refl
-no_words (x ∷ s) h = absurd (omega arith)
-
 module _ (a b : List ℕ) (rest : ℕ) (v : Leaves a b rest) where
   pub none_moves : rest ≡ 0 → MovesUp a b a b (record { first = 0; second = 0 })
   none_moves z =
       let w = v.words in
-      let p = no_words (kept_first a b) (omega arith) in
-      let q = no_words (kept_second a b) (omega arith) in
+      let p = nil_from_length (kept_first a b) (omega arith) in
+      let q = nil_from_length (kept_second a b) (omega arith) in
       record { firsts = omega arith; seconds = omega arith; moved_first = rw p; moved_second = rw q }
 
   module _ (z : rest ≡ 0 → ⊥) where

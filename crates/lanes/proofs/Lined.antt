@@ -6,7 +6,6 @@ use mathlib.Core.List.{List, [], ◌∷◌, ◌++◌, append_assoc}
 use mathlib.Core.Logic.{◌⊎◌, ⊎_elim}
 use mathlib.Core.Option.{Option, none, some}
 use native.Mathlib.Omega.{arith}
-use native.Mathlib.Nat.{zero-add}
 use borrow.Rule.Slice.PartMut.{put_mid}
 use lib.Dec.{ltb}
 use lib.ListN.{length, take, drop, drop_of_length-le}
@@ -100,11 +99,6 @@ pub record Filling (s words₀ : List ℕ) (t₀ k j : ℕ) (f : Filled) (words 
   pub time : (left_read s k f.next j f.time).time ≡ (read_in k s t₀).time
   pub number : (left_read s k f.next j f.time).number ≡ (read_in k s t₀).number
   pub stored : sets words (9 * j) (words_of (left_read s k f.next j f.time).records) ≡ sets words₀ 0 (words_of (read_in k s t₀).records)
-
-pub filling_start : (s words : List ℕ) (t k : ℕ) → Filling s words t k 0 (record { count = 0; next = 0; time = t; refused = None }) words
-filling_start s words t k =
-    let e : k - 0 ≡ k = omega arith in
-    record { count = refl; accepts = refl; many = rw (e, zero-add); next = rw (e, zero-add); time = rw e; number = rw e; stored = rw e }
 
 module _ (s words₀ : List ℕ) (t₀ k j : ℕ) (f : Filled) (words : List ℕ) (g : Filling s words₀ t₀ k j f words) where
   abbrev i : ℕ

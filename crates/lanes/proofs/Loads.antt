@@ -40,7 +40,7 @@ unfolding read_lines line_refused
 one_told [] t = refl
 one_told (l ∷ ls) t = told_line (nine_in l) ls t (λ u. one_told ls u)
 
--- ---- what `load` gives, from what `ready`, `fill` and `bytes_up` give
+-- ---- what `load` gives, from what `ready`, `fill` and `move_up` give
 
 -- a line that is not read is among the bytes that are ready
 pub next_fits : (t : ℕ) (d : List ℕ) (end k : ℕ) (r : Filled) → r ≡ filled t (take end d) k → r.next ≤ end

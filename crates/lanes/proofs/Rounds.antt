@@ -1,4 +1,4 @@
--- What `turn` gives, from what `join_print` and `move_up` give. Assumes nothing.
+-- What `turn` gives, from what `join_print` and `move_rest` give. Assumes nothing.
 use Prim.Native.Nat.{ℕ, ◌+◌, ◌/◌, ◌≤◌, ◌<◌, min}
 use mathlib.Core.Path.{◌≡◌, refl, sym, ap, subst₂, ◌∙◌}
 use mathlib.Core.Bool.{Bool, true, false, cond as pick}

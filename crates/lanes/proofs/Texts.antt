@@ -1,6 +1,6 @@
 -- Records as text, put one after another. Assumes nothing.
 use Prim.Native.Nat.{ℕ, ◌+◌, ◌*◌, ◌≤◌, ◌<◌}
-use mathlib.Core.Path.{◌≡◌, refl, sym, ap, ◌∙◌}
+use mathlib.Core.Path.{◌≡◌, sym, ap, ◌∙◌}
 use mathlib.Core.Bool.{Bool, true, false, cond as pick}
 use mathlib.Core.List.{List, [], ◌++◌}
 use native.Mathlib.Omega.{arith}
@@ -14,25 +14,19 @@ use Rattle.probes.specs.Records.{records_of}
 use Rattle.probes.proofs.Chunks.{records_none, records_more}
 use Rattle.lanes.specs.Program.{text_of}
 
-short_99 : (d : List ℕ) (at r : ℕ) (x : List ℕ) → length x ≤ 9 → r ≡ lined_count d at x → r ≤ 99
+-- what is put of a record is short
+pub short_record : (d : List ℕ) (at r : ℕ) (x : List ℕ) → length x ≡ 9 → r ≡ lined_count d at x → r ≤ 99
 unfolding lined_count
-short_99 d at r x h e = by (line_fits d at x) e
+short_record d at r x h e = by (line_fits d at x) e
   where
     by : (t : Bool) → r ≡ pick t (length (line_of x)) 0 → r ≤ 99
     by true f = let s = line_short x in omega arith
     by false f = omega arith
 
--- what is put of a record is short
-pub short_record : (d : List ℕ) (at r : ℕ) (x : List ℕ) → length x ≡ 9 → r ≡ lined_count d at x → r ≤ 99
-short_record d at r x h e = short_99 d at r x (omega arith) e
-
 -- what is left to put gives the whole text
 pub record Texts (d₀ ws rest : List ℕ) (at : ℕ) (d : List ℕ) : Type 0 where
   pub total : at + length (text_of (records_of rest)) ≡ length (text_of (records_of ws))
   pub bytes : sets d at (text_of (records_of rest)) ≡ sets d₀ 0 (text_of (records_of ws))
-
-pub texts_start : (d ws rest : List ℕ) → rest ≡ ws → Texts d ws rest 0 d
-texts_start d ws rest e = rw e (record { total = omega arith; bytes = refl })
 
 module _ (d₀ ws rest : List ℕ) (at : ℕ) (d : List ℕ) (g : Texts d₀ ws rest at d) where
   module _ (x rest' : List ℕ) (e : rest ≡ x ++ rest') (n : length x ≡ 9) where
