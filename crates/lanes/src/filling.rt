@@ -67,6 +67,7 @@ pub(crate) fn fill(time: u32, s: &[u8], words: &mut [u32]) -> Filled
         time,
         refused: None,
     };
+    // by number: of a list that was lent out chunk by chunk a proof knows the length alone
     for j in 0..words.len() / 9 {
         if s.len() <= so_far.next {
             return so_far;
