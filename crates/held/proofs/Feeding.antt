@@ -1,34 +1,24 @@
--- Whole lines, from the end on. Assumes nothing.
-use Prim.Native.Nat.{ℕ, suc, ◌-◌, ◌≤◌, ◌<◌}
-use mathlib.Core.Path.{◌≡◌, sym, ap, ◌∙◌}
-use mathlib.Core.List.{List, [], ◌∷◌, ◌++◌}
+-- Whole lines end at the last line feed. Assumes nothing.
+use Prim.Native.Nat.{ℕ, zero, suc, ◌+◌, ◌≤◌, ◌<◌}
+use mathlib.Core.Path.{◌≡◌, refl}
+use mathlib.Core.List.{List, [], ◌∷◌}
 use native.Mathlib.Omega.{arith}
 use borrow.Author.Tests.{eq-eqb, ne_eqb}
-use lib.ListN.{length, get_or, take}
-use lib.Seq.{take-suc, length-take-le}
+use lib.ListN.{length, get_or}
 use Rattle.held.specs.Wholes.{whole_of}
 
-after_feed : (x : List ℕ) (b : ℕ) → b ≡ 10 → whole_of (x ++ (b ∷ [])) ≡ suc (length x)
+-- no line feed stands from a place on
+abbrev pub NoFeed : List ℕ → ℕ → Type 0
+NoFeed s i = (k : ℕ) → i ≤ k → k < length s → get_or s k 0 ≡ 10 → ⊥
+
+pub whole_none : (s : List ℕ) → NoFeed s 0 → whole_of s ≡ 0
 unfolding whole_of
-after_feed [] b e = rw (eq-eqb b 10 e)
-after_feed (c ∷ x) b e = rw (after_feed x b e, ne_eqb (suc (length x)) 0 (λ z. omega arith))
+whole_none [] h = refl
+whole_none (b ∷ s) h = rw (whole_none s (λ k l m. h (suc k) (omega arith) (omega arith)), ne_eqb b 10 (h 0 (omega arith) (omega arith)))
 
-after_other : (x : List ℕ) (b : ℕ) → (b ≡ 10 → ⊥) → whole_of (x ++ (b ∷ [])) ≡ whole_of x
+pub whole_last : (s : List ℕ) (i : ℕ) → i < length s → get_or s i 0 ≡ 10 → NoFeed s (i + 1) → whole_of s ≡ i + 1
 unfolding whole_of
-after_other [] b e = rw (ne_eqb b 10 e)
-after_other (c ∷ x) b e = rw (after_other x b e)
-
-module _ (s : List ℕ) (i : ℕ) (h : 0 < i) (k : i ≤ length s) where
-  last : take i s ≡ take (i - 1) s ++ (get_or s (i - 1) 0 ∷ [])
-  last = let e : i ≡ suc (i - 1) = omega arith in ap (λ (j : ℕ). take j s) e ∙ take-suc s (i - 1) 0 (omega arith)
-
-  pub ends_whole : get_or s (i - 1) 0 ≡ 10 → whole_of (take i s) ≡ i
-  ends_whole e =
-      ap whole_of last ∙ after_feed (take (i - 1) s) _ e ∙ (let l = length-take-le (i - 1) s (omega arith) in omega arith)
-
-  pub one_less : (get_or s (i - 1) 0 ≡ 10 → ⊥) → whole_of (take (i - 1) s) ≡ whole_of (take i s)
-  one_less e = sym (ap whole_of last ∙ after_other (take (i - 1) s) _ e)
-
-pub none_whole : (s : List ℕ) (i : ℕ) → i ≡ 0 → whole_of (take i s) ≡ 0
-unfolding whole_of
-none_whole s i e = rw e
+whole_last [] i l e h = absurd (omega arith)
+whole_last (b ∷ s) zero l e h = rw (whole_none s (λ k m n. h (suc k) (omega arith) (omega arith)), eq-eqb b 10 e)
+whole_last (b ∷ s) (suc i) l e h =
+    rw (whole_last s i (omega arith) e (λ k m n. h (suc k) (omega arith) (omega arith)), ne_eqb (i + 1) 0 (λ z. omega arith)) (omega arith)

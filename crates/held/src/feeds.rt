@@ -6,12 +6,8 @@ ghost use Rattle.held.specs.Wholes.{whole_of};
 pub fn whole(s: &[u8]) -> usize
     ensures { result ≡ whole_of s.now }
 {
-    let mut i = s.len();
-    while 0 < i {
-        if s[i - 1] == 10 {
-            return i;
-        }
-        i -= 1;
+    match s.iter().rposition(|b| *b == 10) {
+        Some(last) => last + 1,
+        None => 0,
     }
-    i
 }

@@ -3,7 +3,7 @@ use Prim.Native.Nat.{ℕ, suc, ◌+◌, ◌-◌, ◌≤◌, ◌<◌}
 use mathlib.Core.Path.{◌≡◌, refl, sym, ap, subst, ◌∙◌}
 use mathlib.Core.Bool.{Bool, true, false, cond as pick, ◌&&◌}
 use mathlib.Core.List.{List, [], ◌∷◌, ◌++◌, map, append-nil}
-use mathlib.Core.Logic.{◌⊎◌, inl, inr, ⊎_elim}
+use mathlib.Core.Logic.{◌⊎◌, inl, inr}
 use mathlib.Core.Option.{Option, none, some}
 use native.Mathlib.Omega.{arith}
 use native.Mathlib.Nat.{zero-add}
@@ -163,16 +163,15 @@ module _ (s words₀ marks₀ : List ℕ) (most i j at : ℕ) (words marks : Lis
         marked = rw l at g.marked;
       }
 
-  going_full : most ≤ j → Parses s most words₀ marks₀ words marks (record { lines = j; words = at; next = i })
+  -- the room is used up
+  pub going_full : j ≡ most → Parses s most words₀ marks₀ words marks (record { lines = most; words = at; next = i })
   unfolding passed_by
   going_full h =
       let z : most - j ≡ 0 = omega arith in
-      going_end (rw z) (rw z)
+      let P : ℕ → Type 0 = λ n. Parses s most words₀ marks₀ words marks (record { lines = n; words = at; next = i }) in
+      subst P h (going_end (rw z) (rw z))
 
-  going_none : length s ≤ i → Parses s most words₀ marks₀ words marks (record { lines = j; words = at; next = i })
+  -- the input is used up
+  pub going_none : length s ≤ i → Parses s most words₀ marks₀ words marks (record { lines = j; words = at; next = i })
   unfolding lines_of
   going_none h = going_end (rw (drop_of_length-le s h) (take-nil (most - j))) (rw (drop_of_length-le s h) (passed_nil (most - j)))
-
-  -- the room or the input is used up
-  pub going_stop : ltb j most && ltb i (length s) ≡ false → Parses s most words₀ marks₀ words marks (record { lines = j; words = at; next = i })
-  going_stop e = ⊎_elim going_full going_none (not_less j most i (length s) e)

@@ -1,5 +1,5 @@
 -- Where a line ends. Assumes nothing.
-use Prim.Native.Nat.{ℕ, zero, suc, ◌+◌, ◌≤◌, ◌<◌}
+use Prim.Native.Nat.{ℕ, zero, suc, ◌+◌, ◌-◌, ◌≤◌, ◌<◌}
 use mathlib.Core.Path.{◌≡◌, refl, sym, ap, ◌∙◌}
 use mathlib.Core.Bool.{Bool, true, false, not, cond as pick, ◌&&◌}
 use mathlib.Core.List.{List, [], ◌∷◌, ◌++◌}
@@ -8,7 +8,8 @@ use native.Mathlib.Numerals.{add-one}
 use borrow.Author.Tests.{eq-eqb, ne_eqb, not-true, leb-true, leb-false}
 use lib.Dec.{eqb, leb}
 use lib.ListN.{length, get_or, drop, length-drop, drop_of_length-le, get_or-eq_default}
-use lib.Seq.{drop-cons, drop-drop, drop-append-add}
+use lib.Seq.{drop-cons, drop-drop, drop-append-add, take_all}
+use Rattle.std.specs.Prelude.{slice_range}
 use Rattle.text.specs.Lines.{onto, lines_of, first_line, passed, passed_by}
 use Rattle.text.specs.Reading.{is_digit, all_digits}
 use Rattle.text.proofs.Bools.{and_both, digit_in}
@@ -52,6 +53,34 @@ tab_in s i e = by (leb (length s) i) refl
 pub passed_none : (s : List ℕ) (i : ℕ) → length s ≤ i → passed (drop i s) ≡ 0
 unfolding passed
 passed_none s i h = rw (drop_of_length-le s h)
+
+-- the first line feed of an input
+passed_first : (s : List ℕ) (i : ℕ) → i < length s → get_or s i 0 ≡ 10 → ((k : ℕ) → k < i → get_or s k 0 ≡ 10 → ⊥) → passed s ≡ i + 1
+unfolding passed
+passed_first [] i l e h = absurd (omega arith)
+passed_first (b ∷ s) zero l e h = rw (eq-eqb b 10 e)
+passed_first (b ∷ s) (suc i) l e h =
+    rw (ne_eqb b 10 (h 0 (omega arith)), passed_first s i (omega arith) e (λ k m. h (suc k) (omega arith))) (omega arith)
+
+passed_whole : (s : List ℕ) → ((k : ℕ) → k < length s → get_or s k 0 ≡ 10 → ⊥) → passed s ≡ length s
+unfolding passed
+passed_whole [] h = refl
+passed_whole (b ∷ s) h = rw (ne_eqb b 10 (h 0 (omega arith)), passed_whole s (λ k l. h (suc k) (omega arith)))
+
+-- what is left of an input from a place on
+rest_is : (s rest : List ℕ) (from : ℕ) → rest ≡ slice_range s from (length s) → rest ≡ drop from s
+rest_is s rest from e = let l = length-drop from s in e ∙ take_all (length s - from) (drop from s) (omega arith)
+
+pub next_found : (s rest : List ℕ) (from i : ℕ) → rest ≡ slice_range s from (length s) → i < length rest → get_or rest i 0 ≡ 10
+    → ((k : ℕ) → k < i → get_or rest k 0 ≡ 10 → ⊥) → from + i + 1 ≡ from + passed (drop from s)
+next_found s rest from i e l f h = let p = rw (rest_is s rest from e) at (passed_first rest i l f h) in omega arith
+
+pub next_none : (s rest : List ℕ) (from : ℕ) → rest ≡ slice_range s from (length s) → from ≤ length s
+    → ((k : ℕ) → k < length rest → get_or rest k 0 ≡ 10 → ⊥) → length s ≡ from + passed (drop from s)
+next_none s rest from e k h =
+    let l = length-drop from s in
+    let p = rw (rest_is s rest from e) at (passed_whole rest h) in
+    omega arith
 
 pub first_none : (s : List ℕ) (i : ℕ) → length s ≤ i → first_line (drop i s) ≡ []
 unfolding first_line

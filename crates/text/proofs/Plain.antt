@@ -53,4 +53,4 @@ plain_taken s from h e =
     let f = found_one s (from + 14) (omega arith) d.digit 10 (sym d.after ∙ byte_in s (from + 14 + 1) k) (λ m. rw d.after) in
     rw (z, ← d.spell)
     (ends_here s (from + 14 + 1) 8 _ k d.after
-    ∙ left_end s from (from + 14) 7 (words_to 7 s from) (left_fields s from 7 (omega arith) p.0) _ f (omega arith) (λ q. omega arith) (λ q. omega arith))
+    ∙ left_end s from (from + 14) 7 (words_to 7 s from) (left_fields s from 7 (omega arith) p.0) _ f (omega arith) (λ q. omega arith))

@@ -14,7 +14,7 @@ use lib.Seq.{drop-cons, get_or-drop}
 use Rattle.text.specs.declared.numbers.Run.{Run}
 use Rattle.text.specs.Lines.{first_line, passed}
 use Rattle.text.specs.Reading.{fields_of, is_digit, all_digits, unpadded, spelled, value_of, values_of}
-use Rattle.text.specs.Parts.{Digits, Stops, Runs, numbers, Found}
+use Rattle.text.specs.Parts.{Digits, Stops, Runs, numbers, Unreadable, Found}
 use Rattle.text.proofs.Bools.{digit_in}
 use Rattle.text.proofs.Values.{spelled_snoc, all_snoc, unpadded_lead, unpadded_one, value_some, no_digit, too_large, padded}
 use Rattle.text.proofs.Fields.{numbers_none, numbers_other}
@@ -117,42 +117,33 @@ nothing (b ∷ t) v e l = absurd (omega arith)
 
 -- ---- what `field` answers
 
-found_none : (s : List ℕ) (from : ℕ) → numbers (first_line (drop from s)) ≡ none → Found s from (record { value = 0; end = from; after = 0 })
-found_none s from e =
-    record {
-      run = digits_none s from;
-      refused = λ z. e;
-      value = λ h. absurd (omega arith);
-      after = λ h. absurd (omega arith);
-      stop = λ h. absurd (omega arith);
-    }
-
 module _ (s : List ℕ) (from : ℕ) where
-  pub found_end : length s ≤ from → Found s from (record { value = 0; end = from; after = 0 })
-  found_end h = found_none s from (no_digits s from _ _ refl refl (λ k d. absurd (omega arith)))
+  pub unread_end : length s ≤ from → Unreadable s from
+  unread_end h = no_digits s from _ _ refl refl (λ k d. absurd (omega arith))
 
   module _ (r : Run) (g : Runs s from r) where
-    pub found_large : 4294967295 < r.value → Found s from (record { value = 0; end = from; after = 0 })
-    found_large h = found_none s from (large s from r.end r.value g.run h)
-
-    pub found_zero : 1 < r.end - from → get_or s from 0 ≡ 48 → Found s from (record { value = 0; end = from; after = 0 })
-    found_zero h z = found_none s from (zero_led s from r.end r.value g.run h z)
-
     -- they end where they begin
-    no_run : r.end ≡ from → numbers (first_line (drop from s)) ≡ none
-    no_run z =
+    pub unread_none : r.end ≡ from → Unreadable s from
+    unread_none z =
         let v = nothing g.run.text r.value g.run.spell (let l = g.run.long in omega arith) in
         no_digits s from _ _ refl refl (subst₂ (Stops s) z v g.stop)
 
-    pub found_run : r.value ≤ 4294967295 → (1 < r.end - from → get_or s from 0 ≡ 48 → ⊥)
+    pub unread_large : 4294967295 < r.value → Unreadable s from
+    unread_large h = large s from r.end r.value g.run h
+
+    pub unread_zero : 1 < r.end - from → get_or s from 0 ≡ 48 → Unreadable s from
+    unread_zero h z = zero_led s from r.end r.value g.run h z
+
+    pub found_run : (r.end ≡ from → ⊥) → r.value ≤ 4294967295 → (1 < r.end - from → get_or s from 0 ≡ 48 → ⊥)
         → Found s from (record { value = r.value; end = r.end; after = r.after })
-    found_run k n =
+    found_run e k n =
+        let h : from < r.end = let l = g.run.long in omega arith in
         record {
           run = g.run;
-          refused = no_run;
-          value = λ l. field_value s from r.end r.value g.run l k n;
-          after = λ l. g.after;
-          stop = λ l. g.stop;
+          far = h;
+          value = field_value s from r.end r.value g.run h k n;
+          after = g.after;
+          stop = g.stop;
         }
 
   -- one digit
@@ -166,8 +157,8 @@ module _ (s : List ℕ) (from : ℕ) where
         let k = digit_in (get_or s from 0) d in
         record {
           run = one;
-          refused = λ z. absurd (omega arith);
-          value = λ l. field_value s from (from + 1) (get_or s from 0 - 48) one l (omega arith) (λ m. absurd (omega arith));
-          after = λ l. a;
-          stop = λ l m e. absurd (true≢false (sym e ∙ n m));
+          far = omega arith;
+          value = field_value s from (from + 1) (get_or s from 0 - 48) one (omega arith) (omega arith) (λ m. absurd (omega arith));
+          after = a;
+          stop = λ m e. absurd (true≢false (sym e ∙ n m));
         }

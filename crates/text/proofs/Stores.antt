@@ -1,12 +1,14 @@
 -- Runs of stores. Assumes nothing.
 use Prim.Native.Nat.{ℕ, suc, ◌+◌, ◌≤◌, ◌<◌}
-use mathlib.Core.Path.{◌≡◌}
+use mathlib.Core.Path.{◌≡◌, refl, sym, ap, ◌∙◌}
 use mathlib.Core.List.{List, [], ◌∷◌, ◌++◌}
 use native.Mathlib.Omega.{arith}
 use native.Mathlib.Nat.{add-zero, add-suc, suc-add}
 use native.Mathlib.Numerals.{add-one}
-use lib.ListN.{length, get_or, drop, set, drop_of_length-le}
-use lib.Seq.{sets, set_comm, drop-cons}
+use lib.ListN.{length, get_or, take, drop, set, drop_of_length-le}
+use lib.Seq.{sets, sets-eq, set_comm, drop-cons, paste, length-take-le, take_all}
+use borrow.Rule.Slice.PartMut.{put_mid}
+use Rattle.std.proofs.lemmas.Slice.{put_mid-paste}
 
 -- the last store may come first
 pub sets_snoc : (xs d : List ℕ) (at c : ℕ) → sets (set d (at + length xs) c) at xs ≡ sets d at (xs ++ (c ∷ []))
@@ -27,3 +29,15 @@ sets_step d at w k h = rw (drop-cons w k 0 h, add-one k, add-suc at k)
 
 pub sets_all : (d : List ℕ) (at : ℕ) (w : List ℕ) (k : ℕ) → length w ≤ k → sets d at (drop k w) ≡ d
 sets_all d at w k h = rw (drop_of_length-le w h)
+
+-- a copy is such a run
+pub paste_sets : {A : Type 0} (d : List A) (at : ℕ) (w : List A) (n : ℕ) → n ≤ length w → at + n ≤ length d → paste d at w n ≡ sets d at (take n w)
+paste_sets d at w n h k =
+    let e = length-take-le n w h in
+    let j : at + length (take n w) ≡ at + n = omega arith in
+    sym (sets-eq (take n w) d at (omega arith) ∙ rw j)
+
+-- and so is a part of a list that is written whole
+pub put_sets : {A : Type 0} (at k : ℕ) (d ys w : List A) → ys ≡ w → k ≡ length w → at + k ≤ length d → put_mid at k d ys ≡ sets d at w
+put_sets at k d ys w e l h =
+    put_mid-paste at k d ys w k e refl l ∙ paste_sets d at w k (omega arith) h ∙ ap (sets d at) (take_all k w (omega arith))

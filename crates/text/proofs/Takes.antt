@@ -15,7 +15,7 @@ use Rattle.text.specs.declared.numbers.Number.{Number}
 use Rattle.text.specs.declared.reading.Taken.{Taken}
 use Rattle.text.specs.Lines.{first_line, passed}
 use Rattle.text.specs.Reading.{is_digit, value_of, both, numbers_of, unread, packed, taken_at}
-use Rattle.text.specs.Parts.{numbers, Found, Short, finished}
+use Rattle.text.specs.Parts.{numbers, Unreadable, Found, Short, finished}
 use Rattle.text.proofs.Values.{no_digit, too_large, spelled_snoc}
 use Rattle.text.proofs.Fields.{numbers_last, numbers_tab, numbers_other}
 use Rattle.text.proofs.Lines.{byte_in, tab_in, first_here, first_end, first_none, passed_more, passed_end, passed_none}
@@ -99,12 +99,13 @@ pub left_over : (s : List ℕ) (from i count : ℕ) (words : List ℕ) → Left 
     → unread (i + passed (drop i s)) ≡ taken_at s from
 left_over s from i count words left h = over count words (first_line (drop i s)) _ _ h refl ∙ left.line
 
-module _ (s : List ℕ) (from i count : ℕ) (words : List ℕ) (left : Left s from i count words) (r : Number) (f : Found s i r) where
-  -- no number is there
-  pub left_none : r.end ≡ i → unread (i + passed (drop i s)) ≡ taken_at s from
-  unfolding with_rest
-  left_none e = rw (f.refused e) at left.line
+-- no number is there
+pub left_none : (s : List ℕ) (from i count : ℕ) (words : List ℕ) → Left s from i count words → Unreadable s i
+    → unread (i + passed (drop i s)) ≡ taken_at s from
+unfolding with_rest
+left_none s from i count words left e = rw e at left.line
 
+module _ (s : List ℕ) (from i count : ℕ) (words : List ℕ) (left : Left s from i count words) (r : Number) (f : Found s i r) where
   -- the line after the number
   abbrev after : List ℕ
   after = first_line (drop r.end s)
@@ -115,16 +116,12 @@ module _ (s : List ℕ) (from i count : ℕ) (words : List ℕ) (left : Left s f
   gone : i + passed (drop i s) ≡ r.end + passed (drop r.end s)
   gone = passed_here s i r.end r.value f.run
 
-  -- a number is there
-  far : (r.end ≡ i → ⊥) → i < r.end
-  far n = let l = f.run.long in omega arith
-
   -- it is followed by a tab
-  tab_next : i < r.end → r.end < length s → get_or s r.end 0 ≡ 9 → Left s from (r.end + 1) (count + 1) (set words count r.value)
-  tab_next h k b =
+  tab_next : r.end < length s → get_or s r.end 0 ≡ 9 → Left s from (r.end + 1) (count + 1) (set words count r.value)
+  tab_next k b =
       let n : get_or s r.end 0 ≡ 10 → ⊥ = λ z. omega arith in
       let e : numbers (first_line (drop i s)) ≡ both (some r.value) (numbers (first_line (drop (r.end + 1) s))) =
-      rw (line_at, first_here s r.end k n, b) (numbers_tab f.run.text r.value f.run.all (f.value h) _) in
+      rw (line_at, first_here s r.end k n, b) (numbers_tab f.run.text r.value f.run.all f.value _) in
       record {
         line =
             sym (rest_both count words r.value _ _)
@@ -133,17 +130,17 @@ module _ (s : List ℕ) (from i count : ℕ) (words : List ℕ) (left : Left s f
             ∙ left.line;
       }
 
-  pub left_tab : (r.end ≡ i → ⊥) → r.after ≡ 9 → (r.end < length s) × Left s from (r.end + 1) (count + 1) (set words count r.value)
-  left_tab n e =
-      let t = tab_in s r.end (sym (f.after (far n)) ∙ e) in
-      (t.0, tab_next (far n) t.0 t.1)
+  pub left_tab : r.after ≡ 9 → (r.end < length s) × Left s from (r.end + 1) (count + 1) (set words count r.value)
+  left_tab e =
+      let t = tab_in s r.end (sym f.after ∙ e) in
+      (t.0, tab_next t.0 t.1)
 
   -- the line ends there
-  last : i < r.end → count < 8 → after ≡ [] → finished s r.end (count + 1) (set words count r.value) ≡ taken_at s from
+  last : count < 8 → after ≡ [] → finished s r.end (count + 1) (set words count r.value) ≡ taken_at s from
   unfolding finished with_rest
-  last h m e =
+  last m e =
       let n : numbers (first_line (drop i s)) ≡ some (r.value ∷ []) =
-      rw (line_at, e) (numbers_last f.run.text r.value f.run.all (f.value h)) in
+      rw (line_at, e) (numbers_last f.run.text r.value f.run.all f.value) in
       rw (e, ← gone) (rw (n, le-leb (count + 1) 8 (omega arith)) at left.line)
 
   -- a byte that no field goes on with
@@ -155,25 +152,25 @@ module _ (s : List ℕ) (from i count : ℕ) (words : List ℕ) (left : Left s f
       rw (← lib.Seq.append_snoc f.run.text b g) (too_large (f.run.text ++ (b ∷ [])) g (omega arith))
   wrong_byte b false e k g = no_digit f.run.text g b f.run.all e
 
-  other : i < r.end → (b : ℕ) (u : List ℕ) → after ≡ b ∷ u → (b ≡ 9 → ⊥) → (is_digit b ≡ true → 1000000000 ≤ r.value)
+  other : (b : ℕ) (u : List ℕ) → after ≡ b ∷ u → (b ≡ 9 → ⊥) → (is_digit b ≡ true → 1000000000 ≤ r.value)
       → (w : List ℕ) → finished s r.end (count + 1) w ≡ taken_at s from
   unfolding finished with_rest
-  other h b u e n k w =
+  other b u e n k w =
       let z : numbers (first_line (drop i s)) ≡ none =
       rw (line_at, e) (numbers_other f.run.text u b f.run.all n (wrong_byte b (is_digit b) refl k)) in
       rw (e, ne_eqb (suc (length u)) 0 (λ q. omega arith), ← gone) (rw z at left.line)
 
-  ends : i < r.end → count < 8 → (t u : Bool) → leb (length s) r.end ≡ t → eqb (get_or s r.end 0) 10 ≡ u → (r.end < length s → get_or s r.end 0 ≡ 9 → ⊥)
+  ends : count < 8 → (t u : Bool) → leb (length s) r.end ≡ t → eqb (get_or s r.end 0) 10 ≡ u → (r.end < length s → get_or s r.end 0 ≡ 9 → ⊥)
       → finished s r.end (count + 1) (set words count r.value) ≡ taken_at s from
-  ends h m true u e g n = last h m (first_none s r.end (leb-true _ _ e))
-  ends h m false true e g n = last h m (first_end s r.end (leb-false _ _ e) (eqb-true _ _ g))
-  ends h m false false e g n =
+  ends m true u e g n = last m (first_none s r.end (leb-true _ _ e))
+  ends m false true e g n = last m (first_end s r.end (leb-false _ _ e) (eqb-true _ _ g))
+  ends m false false e g n =
       let k = leb-false (length s) r.end e in
-      other h (get_or s r.end 0) (first_line (drop (r.end + 1) s)) (first_here s r.end k (eqb-false _ _ g)) (n k) (f.stop h k) _
+      other (get_or s r.end 0) (first_line (drop (r.end + 1) s)) (first_here s r.end k (eqb-false _ _ g)) (n k) (f.stop k) _
 
   -- no tab follows
-  pub left_end : count < 8 → (r.end ≡ i → ⊥) → (r.after ≡ 9 → ⊥) → finished s r.end (count + 1) (set words count r.value) ≡ taken_at s from
-  left_end m n e = ends (far n) m _ _ refl refl (λ h z. e (f.after (far n) ∙ sym (byte_in s r.end h) ∙ z))
+  pub left_end : count < 8 → (r.after ≡ 9 → ⊥) → finished s r.end (count + 1) (set words count r.value) ≡ taken_at s from
+  left_end m e = ends m _ _ refl refl (λ h z. e (f.after ∙ sym (byte_in s r.end h) ∙ z))
 
 -- a digit and a tab
 pub left_short : (s : List ℕ) (from i count : ℕ) (words : List ℕ) → Left s from i count words → (v : ℕ) → Short s i v
@@ -182,4 +179,4 @@ left_short s from i count words left v h =
     let e : i + 1 + 1 ≡ i + 2 = omega arith in
     let k = h.within in
     let f = found_one s i (omega arith) h.digit 9 (sym h.tab ∙ byte_in s (i + 1) k) (λ m. rw h.tab) in
-    rw (e, h.spell) at (left_tab s from i count words left _ f (λ z. omega arith) refl).1
+    rw (e, h.spell) at (left_tab s from i count words left _ f refl).1

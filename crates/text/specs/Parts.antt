@@ -30,13 +30,17 @@ pub record Runs (s : List ℕ) (from : ℕ) (r : Run) : Type 0 where
 abbrev pub numbers : List ℕ → Option (List ℕ)
 numbers l = values_of (fields_of l)
 
--- the number at a place; where none is readable, the end is that place
+-- no number can be read of the line at a place
+abbrev pub Unreadable : List ℕ → ℕ → Type 0
+Unreadable s from = numbers (first_line (drop from s)) ≡ none
+
+-- a number stands at a place
 pub record Found (s : List ℕ) (from : ℕ) (r : Number) : Type 0 where
   pub run : Digits s from r.end r.value
-  pub refused : r.end ≡ from → numbers (first_line (drop from s)) ≡ none
-  pub value : from < r.end → value_of run.text ≡ some r.value
-  pub after : from < r.end → r.after ≡ get_or s r.end 10
-  pub stop : from < r.end → Stops s r.end r.value
+  pub far : from < r.end
+  pub value : value_of run.text ≡ some r.value
+  pub after : r.after ≡ get_or s r.end 10
+  pub stop : Stops s r.end r.value
 
 -- a digit and a tab stand at a place, and the digit spells v
 pub record Short (s : List ℕ) (from v : ℕ) : Type 0 where

@@ -4,10 +4,10 @@ ghost use Rattle.std.proofs.lemmas.List.Edits.{sets};
 ghost use Rattle.text.specs.Chunks.{Parses, room};
 ghost use Rattle.text.specs.Parts.{event_words, event_mark};
 
-use crate::reading::take;
-use crate::sizes::least;
+use crate::reading::{Taken, take};
 
-// How far a chunk was read: lines, words put, and the place of the next line.
+// How far a chunk was read: lines, words put, and the place of the next line. The definitions of the whole program are
+// stated over these three numbers, `Parses` first.
 #[derive(Clone, Copy)]
 pub struct Parsed {
     pub lines: usize,
@@ -15,34 +15,15 @@ pub struct Parsed {
     pub next: usize,
 }
 
-// Puts eight words from place `at` on.
-fn store(dst: &mut [u32], at: usize, w: [u32; 8])
-    requires { at + 8 ≤ length dst.old }
-    ensures { dst.new ≡ sets dst.old at w }
-{
-    let mut k: usize = 0;
-    while k < 8 {
-        dst[at + k] = w[k];
-        k += 1;
-    }
-}
-
-// Puts what a line of so many numbers is: an event's words from place `at` on, and the line's mark. Answers how many words that is.
-fn put_line(
-    words: &mut [u32],
-    at: usize,
-    marks: &mut [u8],
-    line: usize,
-    count: usize,
-    w: [u32; 8],
-) -> usize
+// Puts what a line is: an event's words from place `at` on, and the line's mark. Answers how many words that is.
+fn put_line(words: &mut [u32], at: usize, marks: &mut [u8], line: usize, t: Taken) -> usize
     requires { (at + 8 ≤ length words.old) × (line < length marks.old) }
-    ensures value { (result ≡ length (event_words count w)) × (result ≤ 8) }
-    ensures words_after { words.new ≡ sets words.old at (event_words count w) }
-    ensures marks_after { marks.new ≡ set marks.old line (event_mark count) }
+    ensures value { (result ≡ length (event_words t.count t.words)) × (result ≤ 8) }
+    ensures words_after { words.new ≡ sets words.old at (event_words t.count t.words) }
+    ensures marks_after { marks.new ≡ set marks.old line (event_mark t.count) }
 {
-    if count == 8 {
-        store(words, at, w);
+    if t.count == 8 {
+        words[at..at + 8].copy_from_slice(&t.words);
         marks[line] = 1;
         return 8;
     }
@@ -51,25 +32,29 @@ fn put_line(
 }
 
 // Reads at most `most` lines of `s`, as there is room for them: eight words for each event and a mark for each line.
+// The marks are bytes, 1 for an event and else 0: a narrower type would ask more of who calls this and `print`.
 pub fn parse(s: &[u8], most: usize, words: &mut [u32], marks: &mut [u8]) -> Parsed
     ensures { Parses s.now (room most words.old marks.old) words.old marks.old words.new marks.new result }
 {
-    let n = s.len();
-    let some = least(words.len() / 8, marks.len());
-    let k = least(most, some);
-    let mut i: usize = 0;
-    let mut lines: usize = 0;
+    let some = (words.len() / 8).min(marks.len());
+    let k = most.min(some);
     let mut at: usize = 0;
-    while (lines < k) & (i < n) {
-        let t = take(s, i);
-        let w = t.words;
-        at += put_line(words, at, marks, lines, t.count, w);
-        i = t.next;
-        lines += 1;
+    let mut next: usize = 0;
+    for lines in 0..k {
+        if s.len() <= next {
+            return Parsed {
+                lines,
+                words: at,
+                next,
+            };
+        }
+        let t = take(s, next);
+        at += put_line(words, at, marks, lines, t);
+        next = t.next;
     }
     Parsed {
-        lines,
+        lines: k,
         words: at,
-        next: i,
+        next,
     }
 }

@@ -1,66 +1,51 @@
 // One line of nine numbers: one, a tab, and a line of eight.
 ghost use Rattle.std.specs.Prelude.{◌≡◌, ◌∷◌};
-ghost use Rattle.std.proofs.Math.Option.{none};
-ghost use Rattle.text.specs.Nines.{nined, nine_at};
+ghost use Rattle.text.specs.Nines.{nine_at};
 
 use crate::numbers::field;
-use crate::reading::{skip, take};
+use crate::reading::{next_line, take};
 
-// A line of nine numbers that was read: whether it is one, its numbers (not readable: all zero), and the place of the next line.
+// A line of nine numbers that was read: its numbers, if it is one, and the place of the next line.
 #[derive(Clone, Copy)]
 pub struct Nine {
-    pub readable: bool,
-    pub words: [u32; 9],
+    pub numbers: Option<[u32; 9]>,
     pub next: usize,
 }
 
-// A line that is not nine numbers, before the place of the next.
-fn no_nine(next: usize) -> Nine
-    ensures { result ≡ nined none next }
-{
-    Nine {
-        readable: false,
-        words: [0u32; 9],
-        next,
-    }
-}
-
 // A number before eight others.
-fn nine_of(first: u32, w: [u32; 8]) -> [u32; 9]
-    ensures { result ≡ first ∷ w }
+fn nine_of(first: u32, others: [u32; 8]) -> [u32; 9]
+    ensures { result ≡ first ∷ others }
 {
-    let mut words = [0u32; 9];
-    words[0] = first;
-    let mut k: usize = 0;
-    while k < 8 {
-        words[k + 1] = w[k];
-        k += 1;
-    }
-    words
+    let mut numbers = [first; 9];
+    numbers[1..9].copy_from_slice(&others);
+    numbers
 }
 
 // The nine numbers of the line at a place, and the place of the next.
 pub fn take_nine(s: &[u8], from: usize) -> Nine
     ensures { result ≡ nine_at s.now from }
 {
-    let f = field(s, from);
-    let end = f.end;
-    if end == from {
-        let skipped = skip(s, from);
-        return no_nine(skipped.next);
-    }
+    let Some(f) = field(s, from) else {
+        return Nine {
+            numbers: None,
+            next: next_line(s, from),
+        };
+    };
     if f.after != 9 {
-        let skipped = skip(s, end);
-        return no_nine(skipped.next);
+        return Nine {
+            numbers: None,
+            next: next_line(s, f.end),
+        };
     }
-    let t = take(s, end + 1);
+    let t = take(s, f.end + 1);
     if t.count != 8 {
-        return no_nine(t.next);
+        return Nine {
+            numbers: None,
+            next: t.next,
+        };
     }
-    let w = t.words;
     Nine {
-        readable: true,
-        words: nine_of(f.value, w),
+        numbers: Some(nine_of(f.value, t.words)),
         next: t.next,
     }
 }

@@ -1,7 +1,6 @@
 // One number of a line.
-ghost use Rattle.std.specs.Prelude.{◌+◌, ◌<◌, ◌≤◌, ◌≡◌, length};
-ghost use Rattle.text.specs.Reading.{is_digit};
-ghost use Rattle.text.specs.Parts.{Runs, Found, Short, one_digit};
+ghost use Rattle.std.specs.Prelude.{◌+◌, ◌<◌, ◌≤◌, ◌≡◌, length, IfSome, MatchOption};
+ghost use Rattle.text.specs.Parts.{Runs, Unreadable, Found, Short, one_digit};
 
 // Digits: what they spell, the place past them, and the byte there; at the end of input a line feed.
 #[derive(Clone, Copy)]
@@ -19,98 +18,75 @@ pub(crate) struct Number {
     pub after: u8,
 }
 
-fn is_digit(b: u8) -> bool
-    ensures { result ≡ is_digit b }
-{
-    (48 <= b) & (b <= 57)
-}
-
 // The digits from a place on. It stops once the value has ten digits, so that the value cannot wrap.
 fn digits(s: &[u8], from: usize) -> Run
     ensures { Runs s.now from result }
 {
-    let n = s.len();
-    let mut i = from;
     let mut value: u64 = 0;
-    while i < n {
-        let b = s[i];
-        if !is_digit(b) {
+    for end in from..s.len() {
+        let b = s[end];
+        if !b.is_ascii_digit() {
             return Run {
                 value,
-                end: i,
+                end,
                 after: b,
             };
         }
         if 1000000000 <= value {
             return Run {
                 value,
-                end: i,
+                end,
                 after: b,
             };
         }
         value = value * 10 + (b - 48) as u64;
-        i += 1;
     }
     Run {
         value,
-        end: i,
+        end: from.max(s.len()),
         after: 10,
     }
 }
 
-// The number of the field at a place. Where none is readable, the end is that place.
-pub(crate) fn field(s: &[u8], from: usize) -> Number
-    ensures { Found s.now from result }
+// The number of the field at a place, if it is readable.
+pub(crate) fn field(s: &[u8], from: usize) -> Option<Number>
+    ensures { MatchOption result (Unreadable s.now from) (Found s.now from) }
 {
     let d = digits(s, from);
-    let value = d.value;
-    let end = d.end;
-    if 4294967295 < value {
-        return Number {
-            value: 0,
-            end: from,
-            after: 0,
-        };
+    if d.end == from {
+        return None;
     }
-    // with one digit the number may be 0; no digit, and it ends where it begins
-    if end - from < 2 {
-        return Number {
-            value: value as u32,
-            end,
-            after: d.after,
-        };
+    if 4294967295 < d.value {
+        return None;
     }
-    if s[from] == 48 {
-        return Number {
-            value: 0,
-            end: from,
-            after: 0,
-        };
+    // a leading zero
+    if d.end - from > 1 && s[from] == 48 {
+        return None;
     }
-    Number {
-        value: value as u32,
-        end,
+    Some(Number {
+        value: d.value as u32,
+        end: d.end,
         after: d.after,
-    }
+    })
 }
 
-// The number of a field of one digit that a tab ends, else 10: most fields are such, and need no other test.
-pub(crate) fn short(s: &[u8], from: usize) -> u32
+// The number of a field of one digit that a tab ends: most fields are such, and need no other test.
+pub(crate) fn short(s: &[u8], from: usize) -> Option<u32>
     requires { from ≤ length s.now }
-    ensures { result < 10 → Short s.now from result }
+    ensures { IfSome result (λ v. Short s.now from v) }
 {
     let tab = from + 1;
     if s.len() <= tab {
-        return 10;
+        return None;
     }
     if s[tab] != 9 {
-        return 10;
+        return None;
     }
     let b = s[from];
-    if !is_digit(b) {
-        return 10;
+    if !b.is_ascii_digit() {
+        return None;
     }
-    (b - 48) as u32
+    Some((b - 48) as u32)
 }
 
 // Whether a digit stands at a place, and after it the byte that ends its field. No branch, so that many are tested at once.
@@ -118,5 +94,5 @@ pub(crate) fn one_digit(s: &[u8], from: usize, end: u8) -> bool
     requires { from + 1 < length s.now }
     ensures { result ≡ one_digit s.now from end }
 {
-    (s[from + 1] == end) & is_digit(s[from])
+    (s[from + 1] == end) & s[from].is_ascii_digit()
 }

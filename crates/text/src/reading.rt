@@ -1,13 +1,14 @@
 // One line of numbers.
 ghost use Rattle.std.specs.Prelude.{◌+◌, ◌≤◌, ◌≡◌, length, drop};
 ghost use Rattle.text.specs.Lines.{passed};
-ghost use Rattle.text.specs.Reading.{taken_at};
+ghost use Rattle.text.specs.Reading.{unread, taken_at};
 ghost use Rattle.text.specs.Parts.{plain_line, words_to, finished};
 
 use crate::numbers::{field, one_digit, short};
 
 // A line that was read: how many numbers it has, 1 to 8, those numbers and then zeros; not readable: all zero.
-// And the place of the next line.
+// And the place of the next line. The count stands beside eight words since a line has any number of them and there is
+// no heap; the definitions of the whole program, `taken_at` first, are stated over them.
 #[derive(Clone, Copy)]
 pub struct Taken {
     pub count: usize,
@@ -15,26 +16,27 @@ pub struct Taken {
     pub next: usize,
 }
 
-// A line that is not readable, seen at a place.
-pub(crate) fn skip(s: &[u8], from: usize) -> Taken
-    ensures { result ≡ Rattle.text.specs.Reading.unread (from + passed (drop from s.now)) }
+// The place of the next line, seen from a place of a line: past its line feed, or the end of input.
+pub(crate) fn next_line(s: &[u8], from: usize) -> usize
+    ensures { result ≡ from + passed (drop from s.now) }
 {
-    let n = s.len();
-    let mut i = from;
-    while i < n {
-        if s[i] == 10 {
-            return Taken {
-                count: 0,
-                words: [0u32; 8],
-                next: i + 1,
-            };
-        }
-        i += 1;
+    let Some(rest) = s.get(from..) else {
+        return from;
+    };
+    match rest.iter().position(|b| *b == 10) {
+        Some(feed) => from + feed + 1,
+        None => s.len(),
     }
+}
+
+// A line that is not readable, seen at a place.
+fn skip(s: &[u8], from: usize) -> Taken
+    ensures { result ≡ unread (from + passed (drop from s.now)) }
+{
     Taken {
         count: 0,
         words: [0u32; 8],
-        next: i,
+        next: next_line(s, from),
     }
 }
 
@@ -65,10 +67,8 @@ fn is_plain(s: &[u8], from: usize) -> bool
     ensures { result ≡ plain_line s.now from }
 {
     let mut fine = true;
-    let mut k: usize = 0;
-    while k < 7 {
+    for k in 0..7 {
         fine = fine & one_digit(s, from + 2 * k, 9);
-        k += 1;
     }
     fine & one_digit(s, from + 14, 10)
 }
@@ -79,10 +79,8 @@ fn plain_words(s: &[u8], from: usize) -> [u32; 8]
     ensures { result ≡ words_to 8 s.now from }
 {
     let mut words = [0u32; 8];
-    let mut k: usize = 0;
-    while k < 8 {
+    for k in 0..8 {
         words[k] = (s[from + 2 * k] % 16) as u32;
-        k += 1;
     }
     words
 }
@@ -93,27 +91,21 @@ fn take_fields(s: &[u8], from: usize) -> Taken
     ensures { result ≡ taken_at s.now from }
 {
     let mut words = [0u32; 8];
-    let mut count: usize = 0;
     let mut i: usize = from;
-    while count < 8 {
-        let d = short(s, i);
-        if d < 10 {
+    for count in 0..8 {
+        if let Some(d) = short(s, i) {
             words[count] = d;
-            count += 1;
             i += 2;
             continue;
         }
-        let f = field(s, i);
-        let end = f.end;
-        if end == i {
+        let Some(f) = field(s, i) else {
             return skip(s, i);
-        }
+        };
         words[count] = f.value;
-        count += 1;
         if f.after != 9 {
-            return finish(s, end, count, words);
+            return finish(s, f.end, count + 1, words);
         }
-        i = end + 1;
+        i = f.end + 1;
     }
     // a tab ended the eighth field, so there is a ninth
     skip(s, i)
