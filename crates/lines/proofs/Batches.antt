@@ -1,10 +1,9 @@
 -- One batch over the events among lines answers as the lines do one after the other. Assumes nothing.
-use Prim.Native.Nat.{ℕ, suc, ◌+◌, ◌-◌, ◌*◌, ◌/◌, ◌%◌, ◌≤◌, ◌<◌, min}
+use Prim.Native.Nat.{ℕ, suc, ◌+◌, ◌*◌, ◌/◌, ◌%◌, ◌≤◌, ◌<◌, min}
 use mathlib.Core.Path.{◌≡◌, refl, sym, ap, ◌∙◌}
 use mathlib.Core.List.{List, [], ◌∷◌, ◌++◌, map}
 use mathlib.Core.Option.{Option, none, some}
 use native.Mathlib.Omega.{arith}
-use native.Mathlib.Nat.{sub-zero}
 use borrow.Author.Tests.{eq-eqb, le-leb, le-ltb}
 use lib.ListN.{length, get_or, take, drop, length-append, length-map, length-take, length-drop, get_or-append}
 use lib.Seq.{sets, sets-eq, take_at, drop_at}
@@ -176,22 +175,22 @@ module _ (s : State) (src : List ℕ) (l : Lent) where
       let g = rw (accepted s ls l.answers roomy) at f in
       g ∙ front_is (words_of (answers_of s (events_of (words_in ls)))) l.answers (3 * (length (words_in ls) / 8)) (omega arith) (sym (ap length g) ∙ long)
 
-  -- the lines are parsed, their events run, their answers printed: a part lent from place 0 on has its length less 0
+  -- the lines are parsed, their events run, their answers printed
   pub chunk : (n : ℕ) → n ≡ min (length l.out / 33) (length l.answers / 3) → (words marks : List ℕ) (p : Parsed)
       → Parses src (room n l.words l.marks) l.words l.marks words marks p
       → (b : Batched) (answers : List ℕ)
-      → (b ≡ batch_of s (take (p.words - 0) words) l.answers) × (answers ≡ batch_answers s (take (p.words - 0) words) l.answers)
+      → (b ≡ batch_of s (take p.words words) l.answers) × (answers ≡ batch_answers s (take p.words words) l.answers)
       → length answers ≡ length l.answers → (k : ℕ) (out : List ℕ)
-      → (k ≡ printed_count l.out (take (p.lines - 0) marks) answers) × (out ≡ printed l.out (take (p.lines - 0) marks) answers)
+      → (k ≡ printed_count l.out (take p.lines marks) answers) × (out ≡ printed l.out (take p.lines marks) answers)
       → (record { kept = running b.state; read = p.next; written = k } ≡ advanced (running s) src l)
       × (lent words marks answers out ≡ lent_after (running s) src l)
   unfolding advanced lent_after
   chunk n en words marks p g b answers f long k out x =
       let room-is : room n l.words l.marks ≡ most_lines (running s) l = omega arith in
       let m = rw room-is at g in
-      let w : take (p.words - 0) words ≡ words_in ls = rw (sub-zero p.words, m.count, m.events) (take_sets (words_in ls) l.words words_short) in
+      let w : take p.words words ≡ words_in ls = rw (m.count, m.events) (take_sets (words_in ls) l.words words_short) in
       let e = length-map ls mark_of in
-      let v : take (p.lines - 0) marks ≡ map mark_of ls = rw (sub-zero p.lines, m.lines, m.marked, ← e) (take_sets (map mark_of ls) l.marks (let h = few in omega arith)) in
+      let v : take p.lines marks ≡ map mark_of ls = rw (m.lines, m.marked, ← e) (take_sets (map mark_of ls) l.marks (let h = few in omega arith)) in
       let fa : answers ≡ batch_answers s (words_in ls) l.answers = f.1 ∙ ap (λ (x : List ℕ). batch_answers s x l.answers) w in
       let st : running b.state ≡ kept_by (running s) ls =
       ap (λ (r : Batched). running r.state) (f.0 ∙ ap (λ (x : List ℕ). batch_of s x l.answers) w) ∙ batch_state s ls l.answers roomy in

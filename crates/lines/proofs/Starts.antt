@@ -1,9 +1,10 @@
 -- The start line. Assumes nothing.
 use Prim.Native.Nat.{ℕ, ◌+◌, ◌/◌, ◌≤◌, ◌<◌, min}
-use mathlib.Core.Path.{◌≡◌, refl, sym, ap, subst, ◌∙◌}
+use mathlib.Core.Path.{◌≡◌, refl, sym, ap, ◌∙◌}
 use mathlib.Core.Bool.{Bool, true, false, cond as pick}
 use mathlib.Core.List.{List, [], ◌∷◌, append-nil}
 use mathlib.Core.Option.{Option, none, some}
+use mathlib.Core.Logic.{◌⊎◌, ⊎_elim}
 use native.Mathlib.Omega.{arith}
 use native.Mathlib.Nat.{add-zero, zero-add}
 use borrow.Author.Tests.{eqb-true, leb-false, ne_eqb, eq-eqb}
@@ -25,19 +26,9 @@ use Rattle.writing.specs.Writing.{answer_text, put_at, put_count}
 use Rattle.writing.proofs.Puts.{answer_short, is_put}
 use Rattle.lines.specs.declared.kept.Kept.{Kept}
 use Rattle.lines.specs.declared.kept.Advanced.{Advanced}
-use Rattle.lines.specs.Program.{unreadable, start_line, line_does, kept_after, line_text, kept_by, printed_by}
+use Rattle.lines.specs.Program.{nothing_kept, unreadable, start_line, line_does, kept_after, line_text, kept_by, printed_by}
 use Rattle.lines.specs.Chunks.{Lent, lent, most_lines, advanced, lent_after}
 use Rattle.lines.specs.Parts.{running, start_fields}
-
-is_running : (k : Kept) → k.started ≡ true → running k.state ≡ k
-is_running k e = λ i. record { started = sym e i; state = k.state }
-
--- what a call does after it
-pub run_is : (k : Kept) (s : List ℕ) (l : Lent) → k.started ≡ true → (r : Advanced) (words marks answers out : List ℕ)
-    → (r ≡ advanced (running k.state) s l) × (lent words marks answers out ≡ lent_after (running k.state) s l)
-    → (r ≡ advanced k s l) × (lent words marks answers out ≡ lent_after k s l)
-run_is k s l e r words marks answers out =
-    subst (λ (j : Kept). (r ≡ advanced j s l) × (lent words marks answers out ≡ lent_after j s l)) (is_running k e)
 
 -- ---- its numbers
 
@@ -50,10 +41,10 @@ pub start_three : (count : ℕ) (words : List ℕ) → count ≡ 3
 unfolding start_fields
 start_three count words e = rw (eq-eqb count 3 e)
 
-pub start_other : (count : ℕ) (words : List ℕ) (z : Stepped) → z ≡ start_of 0 0 0 → (count ≡ 3 → ⊥)
-    → record { state = z.state; answer = unreadable } ≡ start_fields count words
+pub start_other : (count : ℕ) (words : List ℕ) (k : Kept) → k ≡ nothing_kept → (count ≡ 3 → ⊥)
+    → record { state = k.state; answer = unreadable } ≡ start_fields count words
 unfolding start_fields
-start_other count words z e n = rw (ne_eqb count 3 n, e, zero_start)
+start_other count words k e n = rw (ne_eqb count 3 n, e)
 
 three : (ns : List ℕ) → length ns ≡ 3
     → start_fields 3 (sets (replicate 8 0) 0 ns) ≡ start_line (some ns)
@@ -112,13 +103,16 @@ module _ (k : Kept) (s out : List ℕ) (first : k.started ≡ false) where
   unfolding advanced lent_after kept_by printed_by
   nothing e f = rw (e, f) (refl, refl)
 
-  pub no_line : length s ≡ 0 → Does (record { kept = k; read = 0; written = 0 }) out
+  no_line : length s ≡ 0 → Does (record { kept = k; read = 0; written = 0 }) out
   unfolding lines_of
   no_line h = let e = nil_of s h in nothing (rw (e, take-nil (most_lines k alone))) (rw (e, passed_nil (most_lines k alone)))
 
-  pub no_room : length out < 33 → Does (record { kept = k; read = 0; written = 0 }) out
+  no_room : length out < 33 → Does (record { kept = k; read = 0; written = 0 }) out
   unfolding passed_by
   no_room h = let z : most_lines k alone ≡ 0 = most 0 (omega arith) in nothing (rw z) (rw z)
+
+  pub none_taken : (length s ≡ 0) ⊎ (length out < 33) → Does (record { kept = k; read = 0; written = 0 }) out
+  none_taken = ⊎_elim no_line no_room
 
   -- it is taken
   pub start_taken : 0 < length s → 33 ≤ length out → (t : Taken) → t ≡ taken_at s 0 → (r : Stepped) → r ≡ start_fields t.count t.words

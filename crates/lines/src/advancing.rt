@@ -19,8 +19,7 @@ pub fn advance(
     ensures out_after { lent words.new marks.new answers.new out.new ≡ lent_after kept s.now (lent words.old marks.old answers.old out.old) }
 {
     if kept.started {
-        let state = kept.state;
-        return run(state, s, words, marks, answers, out);
+        return run(kept.state, s, words, marks, answers, out);
     }
     begin(kept, s, out)
 }

@@ -1,7 +1,8 @@
 // What is kept between lines.
 use rules::states::State;
 
-// Whether the start line was read, and the state.
+// Whether the start line was read, and the state. No Option of a state: `advance` takes every two of these, and `program` and
+// the theorems about it are stated over them.
 #[derive(Clone, Copy)]
 pub struct Kept {
     pub started: bool,

@@ -6,35 +6,35 @@ ghost use Rattle.lines.specs.Parts.{start_fields};
 
 use crate::kept::{Advanced, Kept};
 use rules::events::{Answer, Stepped};
+use text::Taken;
+
+// The answer to a line that is not readable.
+const UNREADABLE: Answer = Answer {
+    number: 22,
+    word: 0,
+    slot: 64,
+};
 
 // What is kept before the first line.
 pub fn unstarted() -> Kept
     ensures { result ≡ nothing_kept }
 {
-    let refused = model::start(0, 0, 0);
-    let state = refused.state;
     Kept {
         started: false,
-        state,
+        state: model::start(0, 0, 0).state,
     }
 }
 
-// The start line with so many numbers.
-fn start_line(count: usize, words: [u32; 8]) -> Stepped
-    ensures { result ≡ start_fields count words }
+// The start line with these numbers.
+fn start_line(line: Taken) -> Stepped
+    ensures { result ≡ start_fields line.count line.words }
 {
-    if count == 3 {
-        return model::start(words[0], words[1], words[2]);
+    if line.count == 3 {
+        return model::start(line.words[0], line.words[1], line.words[2]);
     }
-    let zero = model::start(0, 0, 0);
-    let state = zero.state;
     Stepped {
-        state,
-        answer: Answer {
-            number: 22,
-            word: 0,
-            slot: 64,
-        },
+        state: unstarted().state,
+        answer: UNREADABLE,
     }
 }
 
@@ -44,32 +44,23 @@ pub(crate) fn begin(kept: Kept, s: &[u8], out: &mut [u8]) -> Advanced
     ensures value { result ≡ advanced kept s.now (lent [] [] [] out.old) }
     ensures out_after { out.new ≡ (lent_after kept s.now (lent [] [] [] out.old)).out }
 {
-    if s.len() == 0 {
+    if s.is_empty() || out.len() < 33 {
         return Advanced {
             kept,
             read: 0,
             written: 0,
         };
     }
-    if out.len() < 33 {
-        return Advanced {
-            kept,
-            read: 0,
-            written: 0,
-        };
-    }
-    let t = text::take(s, 0);
-    let words = t.words;
-    let r = start_line(t.count, words);
-    let a = r.answer;
+    let line = text::take(s, 0);
+    let started = start_line(line);
+    let a = started.answer;
     let written = writing::write(out, 0, a.number, a.word, a.slot);
-    let state = r.state;
     Advanced {
         kept: Kept {
             started: true,
-            state,
+            state: started.state,
         },
-        read: t.next,
+        read: line.next,
         written,
     }
 }

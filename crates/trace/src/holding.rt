@@ -3,26 +3,23 @@ ghost use Rattle.std.specs.Prelude.{◌≤◌, ◌≡◌, length, take, drop};
 ghost use Rattle.std.proofs.lemmas.List.Edits.{sets};
 ghost use Rattle.trace.specs.Arrivals.{ready_in, clipped};
 
-use held::{bytes_up, whole};
-use text::least;
+use held::{move_up, whole};
 
-// How many bytes of `s` can be answered.
-pub(crate) fn ready(s: &[u8], last: bool) -> usize
-    ensures s_value { take result s.now ≡ ready_in last s.now }
-    ensures upper_bound { result ≤ length s.now }
+// The bytes of `s` that can be answered.
+pub(crate) fn ready(s: &[u8], last: bool) -> &[u8]
+    ensures { result.now ≡ ready_in last s.now }
 {
-    if last { s.len() } else { whole(s) }
+    if last { s } else { &s[..whole(s)] }
 }
 
-// How many bytes of `s` are held.
-fn held_of(s: &[u8]) -> usize
-    ensures s_value { take result s.now ≡ clipped s.now }
-    ensures upper_bound { result ≤ length s.now }
+// The bytes of `s` that are held.
+fn clip(s: &[u8]) -> &[u8]
+    ensures { result.now ≡ clipped s.now }
 {
     if whole(s) == 0 {
-        least(s.len(), 97)
+        &s[..s.len().min(97)]
     } else {
-        s.len()
+        s
     }
 }
 
@@ -32,6 +29,6 @@ pub(crate) fn hold(buf: &mut [u8], from: usize, to: usize) -> usize
     ensures value { result ≡ length (clipped (drop from (take to buf.old))) }
     ensures buf_after { buf.new ≡ sets buf.old 0 (clipped (drop from (take to buf.old))) }
 {
-    let n = held_of(&buf[from..to]);
-    bytes_up(buf, from, n)
+    let n = clip(&buf[from..to]).len();
+    move_up(buf, from, n)
 }

@@ -1,52 +1,33 @@
 -- An answer is read back as it was written. Assumes nothing.
-use Prim.Native.Nat.{ℕ, zero, suc, ◌+◌, ◌/◌, ◌%◌, ◌^◌, ◌≤◌, ◌<◌}
-use mathlib.Core.Path.{◌≡◌, refl, sym, ap, ◌∙◌}
+use Prim.Native.Nat.{ℕ, ◌^◌, ◌≤◌, ◌<◌}
+use mathlib.Core.Path.{◌≡◌, refl, ap, ◌∙◌}
 use mathlib.Core.Bool.{true, not}
 use mathlib.Core.List.{List, [], ◌∷◌, ◌++◌, map, append_assoc, append-nil}
 use mathlib.Core.Logic.{⊎_elim}
 use mathlib.Core.Option.{some}
 use native.Mathlib.Omega.{arith}
-use native.Mathlib.Nat.{pow-suc}
 use borrow.Author.Tests.{le-leb, not-true}
 use lib.Dec.{eqb}
-use lib.ListN.{length, get_or, length-append, get_or-append}
+use lib.ListN.{length, length-append}
 use Rattle.text.specs.Lines.{lines_of, first_line, passed}
 use Rattle.text.specs.Reading.{fields_of, all_digits, unpadded, spelled, value_of, values_of, numbers_of}
-use Rattle.text.proofs.Bools.{and_both, digit_yes}
+use Rattle.text.proofs.Bools.{and_both}
 use Rattle.text.proofs.Lines.{free, free_append, free_digits, lines_free}
-use Rattle.text.proofs.Values.{spelled_snoc, all_snoc, unpadded_lead, value_some}
+use Rattle.text.proofs.Values.{unpadded_lead, value_some}
 use Rattle.writing.specs.Writing.{decimal, ended, answer_text}
-use Rattle.writing.specs.Parts.{digits}
-use Rattle.writing.proofs.Digits.{Spans, spans, decimal_is, length_digits}
+use Rattle.writing.proofs.Digits.{decimal_is}
+use Rattle.std.specs.Fmt.{decimal as written}
+use Rattle.std.proofs.Common.{rules}
+use Rattle.std.proofs.lemmas.Bool.{cases_lt}
+use Rattle.std.proofs.lemmas.Fmt.{digits_value-decimal, decimal_nonempty, length-decimal-le, digits_decimal, first_decimal, decimal_digit}
+use Rattle.std.proofs.lemmas.Str.Parse.{IsNumeralModel, numerals_by_fold}
 
 -- ---- a number's text is a field with its value
 
-digits_spell : (k n : ℕ) → n < 10 ^ k → spelled 0 (digits k n) ≡ n
-unfolding spelled digits
-digits_spell zero n h = omega arith
-digits_spell (suc k) n h =
-    let p = pow-suc 10 k in
-    spelled_snoc (digits k (n / 10)) 0 (48 + n % 10) ∙ rw (digits_spell k (n / 10) (omega arith)) (omega arith)
-
-digits_digits : (k n : ℕ) → all_digits (digits k n) ≡ true
-unfolding all_digits digits
-digits_digits zero n = refl
-digits_digits (suc k) n =
-    all_snoc (digits k (n / 10)) (48 + n % 10) (digits_digits k (n / 10)) (digit_yes (48 + n % 10) (omega arith) (omega arith))
-
--- the first digit is not 0
-lead : (k n : ℕ) → 10 ^ k ≤ n → n < 10 ^ suc k → get_or (digits (suc k) n) 0 0 ≡ 48 → ⊥
-unfolding digits
-lead zero n p q e = omega arith
-lead (suc k) n p q e =
-    let a = pow-suc 10 k in
-    let b = pow-suc 10 (suc k) in
-    lead k (n / 10) (omega arith) (omega arith)
-    (sym (get_or-append (digits (suc k) (n / 10)) ((48 + n % 10) ∷ []) 0 0 (let l = length_digits (suc k) (n / 10) in omega arith)) ∙ e)
-
-digits_unpadded : (m n : ℕ) → Spans m n → unpadded (digits (suc m) n) ≡ true
-unfolding digits unpadded
-digits_unpadded m n s = ⊎_elim (λ z. rw z refl) (λ z. unpadded_lead (digits (suc m) n) (lead m n z s.below)) s.above
+-- the words of `text` for digits and their number are those of the library
+pub own : IsNumeralModel (λ ds. all_digits ds ≡ true) (spelled 0)
+unfolding all_digits spelled
+own = numerals_by_fold _ (search rules) spelled (search rules)
 
 -- what a number's text is
 record Text (n : ℕ) : Type 0 where
@@ -55,17 +36,19 @@ record Text (n : ℕ) : Type 0 where
   short : length (decimal n) ≤ 10
 
 text : (n : ℕ) → n < 2 ^ 32 → Text n
+unfolding unpadded
 text n h =
-    let s = spans n h in
-    let d = decimal_is s.0 n s.1 s.2 in
-    let v = digits_spell (suc s.0) n s.2.below in
-    let l = length_digits (suc s.0) n in
+    let d = decimal_is n (omega arith) in
+    let w : n < 2 ^ 64 = omega arith in
+    let v = digits_value-decimal own n w in
+    let some_digit = decimal_nonempty n w in
+    let few = length-decimal-le 10 n (omega arith) (omega arith) w in
+    let digits = digits_decimal own n w in
+    let lead : unpadded (written n) ≡ true =
+    ⊎_elim (λ z. unpadded_lead (written n) (λ e. let f = first_decimal n z w in omega arith)) (λ z. let o : n ≡ 0 = omega arith in rw (decimal_digit n (omega arith)) refl) (cases_lt 0 n) in
     record {
-      value =
-          rw d
-          (value_some (digits (suc s.0) n) (omega arith) (digits_digits _ n) (digits_unpadded s.0 n s.2) (omega arith)
-          ∙ ap some v);
-      all = rw d (digits_digits (suc s.0) n);
+      value = rw d (value_some (written n) (omega arith) digits lead (omega arith) ∙ ap some v);
+      all = rw d digits;
       short = rw d (omega arith);
     }
 

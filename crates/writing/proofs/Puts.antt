@@ -2,18 +2,20 @@
 use Prim.Native.Nat.{ℕ, zero, suc, ◌+◌, ◌/◌, ◌%◌, ◌^◌, ◌≤◌, ◌<◌}
 use mathlib.Core.Path.{◌≡◌, refl, sym, ap, ◌∙◌}
 use mathlib.Core.Bool.{Bool, true, false, cond as pick}
-use mathlib.Core.List.{List, [], ◌∷◌, ◌++◌}
+use mathlib.Core.List.{List, [], ◌∷◌, ◌++◌, append_assoc}
 use native.Mathlib.Omega.{arith}
 use native.Mathlib.Nat.{add-zero, zero-add}
 use native.Mathlib.Numerals.{add-one}
 use borrow.Author.Tests.{le-leb, lt-leb, lt-ltb, le-ltb}
 use lib.Dec.{ltb, eqb}
-use lib.ListN.{length, get_or, set, drop, length-append, drop_of_length-le}
+use lib.ListN.{length, get_or, set, take, drop, length-append, drop_of_length-le}
 use lib.Seq.{sets, sets-eq, drop-cons, drop-drop, get_or-drop}
 use Rattle.writing.specs.Writing.{decimal_to, decimal, ended, answer_text, put_at, put_count, answers_text, printed, printed_count}
-use Rattle.writing.specs.Parts.{digits, answer_at, words_of}
+use Rattle.writing.specs.Parts.{answer_at, words_of}
 use Rattle.text.proofs.Stores.{sets_append}
-use Rattle.writing.proofs.Digits.{spans, decimal_is, length_digits}
+use Rattle.writing.proofs.Digits.{decimal_is}
+use Rattle.std.specs.Fmt.{decimal as written}
+use Rattle.std.proofs.lemmas.List.{take-append-drop}
 
 -- ---- one answer
 
@@ -51,9 +53,6 @@ answer_short a b c =
     let z = decimal_short c in
     let l = length_answer a b c in
     omega arith
-
-pub fits : (n at a b c : ℕ) → at + 33 ≤ n → at + length (answer_text a b c) ≤ n
-fits n at a b c h = let s = answer_short a b c in omega arith
 
 -- ---- bytes are put
 
@@ -93,15 +92,17 @@ puts_two d at n b h k =
     let e : at + 2 ≡ suc (suc at) = omega arith in
     rw (decimal_two n h k, e, add-one at) (refl, refl)
 
--- the digits of a number of this width
-pub puts_digits : (d d' : List ℕ) (at n b i : ℕ) → n < 2 ^ 32 → i ≡ length (decimal n) → d' ≡ sets d at (digits i n ++ (b ∷ []))
-    → Puts d at (ended n b) (at + i + 1) d'
+-- what the library wrote up to a place, and a byte there
+pub puts_written : (d d' : List ℕ) (at n b r end : ℕ) → n < 2 ^ 32 → end ≡ at + length (decimal n) → end < length d
+    → r + length (written n) ≡ end → drop r d' ≡ written n ++ drop end d → take r d' ≡ take r d → Puts d at (ended n b) (end + 1) (set d' end b)
 unfolding ended
-puts_digits d d' at n b i h e g =
-    let s = spans n h in
-    let w = decimal_is s.0 n s.1 s.2 in
+puts_written d d' at n b r end w e h s f g =
     let l = length_ended n b in
-    (omega arith, g ∙ rw (e, w, length_digits (suc s.0) n))
+    let i = decimal_is n (omega arith) in
+    let place : r ≡ at = let k = ap length i in omega arith in
+    let same : d' ≡ sets d at (decimal n) =
+    sym (take-append-drop r d') ∙ rw (g, f, place, e, ← i) (sym (append_assoc (take at d) (decimal n) _) ∙ sym (sets-eq (decimal n) d at (omega arith))) in
+    (omega arith, rw (same, e) (sym (sets_append (decimal n) (b ∷ []) d at)))
 
 -- ---- where an answer is put
 

@@ -7,26 +7,24 @@ ghost use Rattle.writing.specs.Parts.{answer_at, words_of};
 use crate::decimals::{put_number, width};
 
 // Puts the text of an answer where there is room for it, and answers the place after it: `print` has counted the room before.
-fn place(dst: &mut [u8], at: usize, n: u32, word: u32, slot: u32) -> usize
-    requires { at + length (answer_text n word slot) ≤ length dst.old }
-    ensures value { result ≡ at + length (answer_text n word slot) }
-    ensures dst_after { dst.new ≡ sets dst.old at (answer_text n word slot) }
+fn place(dst: &mut [u8], at: usize, number: u32, word: u32, slot: u32) -> usize
+    requires { at + length (answer_text number word slot) ≤ length dst.old }
+    ensures value { result ≡ at + length (answer_text number word slot) }
+    ensures dst_after { dst.new ≡ sets dst.old at (answer_text number word slot) }
 {
-    let p = put_number(dst, at, n, 9);
-    let q = put_number(dst, p, word, 9);
-    put_number(dst, q, slot, 10)
+    let p = put_number(dst, at, number, b'\t');
+    let q = put_number(dst, p, word, b'\t');
+    put_number(dst, q, slot, b'\n')
 }
 
 // Puts the text of an answer from place `at` on, and answers how many bytes it is; 0, and nothing is put, where it does not fit.
+// The answer comes as its three numbers: this crate does not stand on `rules`, which has the struct.
 pub fn write(dst: &mut [u8], at: usize, number: u32, word: u32, slot: u32) -> usize
     ensures value { result ≡ put_count dst.old at (answer_text number word slot) }
     ensures dst_after { dst.new ≡ put_at dst.old at (answer_text number word slot) }
 {
     let count = width(number) + width(word) + width(slot) + 3;
-    if dst.len() < at {
-        return 0;
-    }
-    if dst.len() - at < count {
+    if dst.len().saturating_sub(at) < count {
         return 0;
     }
     place(dst, at, number, word, slot);
@@ -53,7 +51,8 @@ fn words_of(mark: u8) -> usize
 }
 
 // Puts the answers to lines with these marks at the start of `dst`, and answers how many bytes that is; 0, and nothing is put, where
-// there are not 33 bytes and three words for each line.
+// there are not 33 bytes and three words for each line. `print` promises an answer for every mark, of which 1 is an event's and
+// each other a line that is not readable: a narrower type would ask more of callers.
 pub fn print(dst: &mut [u8], marks: &[u8], answers: &[u32]) -> usize
     ensures value { result ≡ printed_count dst.old marks.now answers.now }
     ensures dst_after { dst.new ≡ printed dst.old marks.now answers.now }
@@ -65,14 +64,11 @@ pub fn print(dst: &mut [u8], marks: &[u8], answers: &[u32]) -> usize
     if answers.len() / 3 < n {
         return 0;
     }
-    let mut j: usize = 0;
-    let mut a: usize = 0;
-    let mut at: usize = 0;
-    while j < n {
-        let mark = marks[j];
+    let mut a = 0;
+    let mut at = 0;
+    for &mark in marks {
         at = put_answer(dst, at, mark, answers, a);
         a += words_of(mark);
-        j += 1;
     }
     at
 }

@@ -9,7 +9,7 @@ use crate::decimals::put_number;
 fn byte_after(last: bool) -> u8
     ensures { result ≡ pick last 10 9 }
 {
-    if last { 10 } else { 9 }
+    if last { b'\n' } else { b'\t' }
 }
 
 // Puts numbers as a line from place `at` on, where there is room, and answers the place after it.
@@ -18,13 +18,10 @@ fn place_line(dst: &mut [u8], at: usize, numbers: &[u32]) -> usize
     ensures value { result ≡ at + length (line_of numbers.now) }
     ensures dst_after { dst.new ≡ sets dst.old at (line_of numbers.now) }
 {
-    let n = numbers.len();
-    let mut k: usize = 0;
     let mut p = at;
-    while k < n {
-        let end = byte_after(k + 1 == n);
-        p = put_number(dst, p, numbers[k], end);
-        k += 1;
+    for (k, &number) in numbers.iter().enumerate() {
+        let end = byte_after(k + 1 == numbers.len());
+        p = put_number(dst, p, number, end);
     }
     p
 }

@@ -1,4 +1,5 @@
 use native.Mathlib.Omega.{arith}
+use lib.ListN.{length-take}
 use Rattle.lines.specs.Chunks.{lent}
 use Rattle.lines.proofs.Batches.{parsed_within, chunk}
 use Rattle.lines.proofs.events.run.Goals as goal
@@ -6,23 +7,23 @@ use Rattle.lines.proofs.events.run.Goals as goal
 pub slice_bounds-batch-end : goal.slice_bounds-batch-end
 slice_bounds-batch-end c =
     let a = c.args in
-    let p = c.parse-p in
+    let p = c.parse-parsed in
     let h = parsed_within _ a.s.now a.words.now a.marks.now _ _ p.result p.ensures in
     omega (arith, h, p)
 
-pub slice_bounds-print-end : goal.slice_bounds-print-end
-slice_bounds-print-end c =
+pub slice_bounds-batch-end-2 : goal.slice_bounds-batch-end-2
+slice_bounds-batch-end-2 c =
     let a = c.args in
-    let p = c.parse-p in
+    let p = c.parse-parsed in
     let h = parsed_within _ a.s.now a.words.now a.marks.now _ _ p.result p.ensures in
-    omega (arith, h, p)
+    omega (arith, h, p, length-take p.result.words p.new.words)
 
 pub returns : goal.returns
 returns c =
     let a = c.args in
-    let m = c.least-most in
-    let p = c.parse-p in
-    let b = c.batch-b in
+    let m = c.min-most in
+    let p = c.parse-parsed in
+    let b = c.batch-batch in
     let w = c.print-written in
     let n =
     chunk a.state a.s.now (lent a.words.now a.marks.now a.answers.now a.out.now) m.result m.ensures p.new.words p.new.marks p.result p.ensures

@@ -1,10 +1,5 @@
-use mathlib.Core.Path.{ap, ◌∙◌}
 use Rattle.lines.proofs.Starts.{zero_start}
-use mathlib.Core.Bool.{false}
-use Rattle.rules.specs.declared.states.State.{State}
-use Rattle.rules.specs.declared.events.Stepped.{Stepped}
 use Rattle.lines.proofs.starting.unstarted.Goals as goal
 
 pub returns : goal.returns
-returns c =
-    ap (λ (s : State). record { started = false; state = s }) (ap (λ (r : Stepped). r.state) c.start-refused.ensures ∙ zero_start)
+returns c = rw (c.start.ensures, zero_start)

@@ -1,11 +1,13 @@
-use Rattle.trace.proofs.Turns.{holds}
+use mathlib.Core.Path.{ap, ◌∙◌}
+use lib.ListN.{length}
+use lib.Seq.{sets}
+use Rattle.trace.proofs.Turns.{moved}
 use Rattle.trace.proofs.holding.hold.Goals as goal
 
 pub returns : goal.returns
 returns c =
     let a = c.args in
-    let p = c.requires in
-    let n = c.held_of-n in
-    let b = c.bytes_up in
-    let h = holds a.buf.now a.from a.to n.result p.0 p.1 (n.ensures.s_value, n.ensures.upper_bound) b.result b.new.buf (b.ensures.value, b.ensures.buf_after) in
-    record { value = h.0; buf_after = h.1 }
+    let n = c.clip-n.ensures in
+    let m = c.move_up.ensures in
+    let e = moved a.buf.now a.from a.to c.requires.0 c.requires.1 in
+    record { value = (rw n at m.value) ∙ ap length e; buf_after = (rw n at m.list_after) ∙ ap (sets a.buf.now 0) e }

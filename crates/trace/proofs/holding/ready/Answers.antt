@@ -1,12 +1,7 @@
-use Rattle.trace.proofs.Turns.{ready_all, ready_whole}
+use native.Mathlib.Omega.{arith}
+use lib.ListN.{length-take}
+use Rattle.held.proofs.Wholes.{cut}
 use Rattle.trace.proofs.holding.ready.Goals as goal
 
-pub returns-then-last : goal.returns-then-last
-returns-then-last c =
-    let f = ready_all c.args.s.now c.args.last c.if-last.true in
-    record { s_value = f.0; upper_bound = f.1 }
-
-pub returns-else-last : goal.returns-else-last
-returns-else-last c =
-    let f = ready_whole c.args.s.now c.args.last c.if-last.false c.whole.result c.whole.ensures in
-    record { s_value = f.0; upper_bound = f.1 }
+pub slice_bounds-result-end : goal.slice_bounds-result-end
+slice_bounds-result-end c = let h = (cut c.args.s.now).within in omega (arith, length-take c.whole.result c.args.s.now)

@@ -5,18 +5,12 @@ use Rattle.writing.specs.Writing.{answer_text}
 use Rattle.writing.proofs.Puts.{length_answer, no_room, is_put}
 use Rattle.writing.proofs.answers.write.Goals as goal
 
-pub returns-then-dst-at : goal.returns-then-dst-at
-returns-then-dst-at c =
+pub returns-then-saturating_sub-count : goal.returns-then-saturating_sub-count
+returns-then-saturating_sub-count c =
     let a = c.args in
     let l = length_answer a.number a.word a.slot in
-    let p = no_room a.dst.now a.at (answer_text a.number a.word a.slot) (omega (arith, l)) in
-    record { value = p.0; dst_after = p.1 }
-
-pub returns-then-dst-at-2 : goal.returns-then-dst-at-2
-returns-then-dst-at-2 c =
-    let a = c.args in
-    let l = length_answer a.number a.word a.slot in
-    let p = no_room a.dst.now a.at (answer_text a.number a.word a.slot) (omega (arith, l)) in
+    let s = c.saturating_sub.ensures in
+    let p = no_room a.dst.now a.at (answer_text a.number a.word a.slot) (omega arith) in
     record { value = p.0; dst_after = p.1 }
 
 pub place-requires : goal.place-requires

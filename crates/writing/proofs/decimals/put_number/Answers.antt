@@ -1,19 +1,12 @@
 use mathlib.Core.Path.{ap}
 use native.Mathlib.Omega.{arith}
 use lib.ListN.{length, length-set}
-use Rattle.writing.proofs.Puts.{decimal_one, decimal_two, puts_one, puts_two, puts_digits}
+use Rattle.writing.proofs.Puts.{decimal_one, decimal_two, puts_one, puts_two}
 use Rattle.writing.proofs.decimals.put_number.Goals as goal
-
-pub bounds-dst-at : goal.bounds-dst-at
-bounds-dst-at c =
-    let a = c.args in
-    let l = ap length (decimal_one a.n c.if-n-lt10.true) in
-    omega arith
 
 pub bounds-dst-at-then-n-lt10 : goal.bounds-dst-at-then-n-lt10
 bounds-dst-at-then-n-lt10 c =
-    let a = c.args in
-    let l = ap length (decimal_one a.n c.if-n-lt10.true) in
+    let l = ap length (decimal_one c.args.n c.if-n-lt10.true) in
     simp length-set (omega arith)
 
 pub returns-then-n-lt10 : goal.returns-then-n-lt10
@@ -21,31 +14,17 @@ returns-then-n-lt10 c =
     let p = puts_one c.args.dst.now c.args.at c.args.n c.args.end c.if-n-lt10.true in
     record { value = p.0; dst_after = p.1 }
 
-pub bounds-dst-at-then-n-lt100 : goal.bounds-dst-at-then-n-lt100
-bounds-dst-at-then-n-lt100 c =
-    let a = c.args in
-    let l = ap length (decimal_two a.n c.if-n-lt10.false c.if-n-lt100.true) in
-    omega arith
-
 pub bounds-dst-at-then-n-lt100-2 : goal.bounds-dst-at-then-n-lt100-2
 bounds-dst-at-then-n-lt100-2 c =
-    let a = c.args in
-    let l = ap length (decimal_two a.n c.if-n-lt10.false c.if-n-lt100.true) in
+    let l = ap length (decimal_two c.args.n c.if-n-lt10.false c.if-n-lt100.true) in
     simp length-set (omega arith)
 
 pub bounds-dst-at-then-n-lt100-3 : goal.bounds-dst-at-then-n-lt100-3
 bounds-dst-at-then-n-lt100-3 c =
-    let a = c.args in
-    let l = ap length (decimal_two a.n c.if-n-lt10.false c.if-n-lt100.true) in
+    let l = ap length (decimal_two c.args.n c.if-n-lt10.false c.if-n-lt100.true) in
     simp length-set (omega arith)
 
 pub returns-then-n-lt100 : goal.returns-then-n-lt100
 returns-then-n-lt100 c =
     let p = puts_two c.args.dst.now c.args.at c.args.n c.args.end c.if-n-lt10.false c.if-n-lt100.true in
-    record { value = p.0; dst_after = p.1 }
-
-pub returns : goal.returns
-returns c =
-    let a = c.args in
-    let p = puts_digits a.dst.now c.put.new.dst a.at a.n a.end c.width-k.result (omega arith) c.width-k.ensures.0 c.put.ensures in
     record { value = p.0; dst_after = p.1 }

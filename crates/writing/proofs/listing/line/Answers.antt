@@ -14,9 +14,6 @@ returns-then-dst-at-2 c =
     let n = no_line a.dst.now a.at a.numbers.now (omega arith) in
     record { value = n.0; dst_after = n.1 }
 
-pub place_line-requires : goal.place_line-requires
-place_line-requires c = omega arith
-
 pub returns : goal.returns
 returns c =
     let a = c.args in

@@ -1,4 +1,3 @@
-use mathlib.Core.Path.{refl, ◌∙◌}
 use native.Mathlib.Omega.{arith}
 use lib.ListN.{get_or}
 use Rattle.writing.proofs.Puts.{decimal_short, length_ended}
@@ -6,22 +5,10 @@ use Rattle.writing.proofs.Rows.{lining_start, lining_more, lining_end}
 use Rattle.writing.proofs.listing.place_line.Goals as goal
 
 pub loop-k-init : goal.loop-k-init
-loop-k-init c = (refl, omega arith, refl, omega arith, omega arith, lining_start _ _ _)
-
-pub offset_bounds-numbers-k : goal.offset_bounds-numbers-k
-offset_bounds-numbers-k c = omega arith
-
-pub bounds-numbers-k : goal.bounds-numbers-k
-bounds-numbers-k c = omega arith
+loop-k-init c = record { room = omega arith; put = lining_start _ _ _ }
 
 pub put_number-p-requires : goal.put_number-p-requires
-put_number-p-requires c =
-    let l = c.loop-k in
-    let n = c.args.numbers.now in
-    omega (arith, decimal_short (get_or n l.k 0))
-
-pub loop-k-smaller : goal.loop-k-smaller
-loop-k-smaller c = omega arith
+put_number-p-requires c = omega (arith, decimal_short (get_or c.args.numbers.now c.loop-k.k 0))
 
 pub loop-k-preserved : goal.loop-k-preserved
 loop-k-preserved c =
@@ -29,14 +16,13 @@ loop-k-preserved c =
     let p = c.put_number-p in
     let b = c.byte_after-end in
     let n = c.args.numbers.now in
-    let g = lining_more _ n _ l.k l.p l.dst l.invariant.5 (omega arith) b.result p.result p.new.dst b.ensures p.ensures.value p.ensures.dst_after in
-    (refl, l.invariant.1, p.auto.dst ∙ l.invariant.2, omega arith, omega (arith, length_ended (get_or n l.k 0) b.result, decimal_short (get_or n l.k 0)), g)
-
-pub shape_of-dst : goal.shape_of-dst
-shape_of-dst c = c.loop-k.invariant.2
+    record {
+      room = omega (arith, length_ended (get_or n l.k 0) b.result, decimal_short (get_or n l.k 0));
+      put = lining_more _ n _ l.k l.p l.dst l.invariant.put c.loop-k-test.true b.result p.result p.new.dst b.ensures p.ensures.value p.ensures.dst_after;
+    }
 
 pub returns : goal.returns
 returns c =
     let l = c.loop-k in
-    let p = lining_end c.args.dst.now c.args.numbers.now c.args.at l.k l.p l.dst l.invariant.5 (omega arith) in
+    let p = lining_end c.args.dst.now c.args.numbers.now c.args.at l.k l.p l.dst l.invariant.put c.loop-k-test.false in
     record { value = p.0; dst_after = p.1 }
