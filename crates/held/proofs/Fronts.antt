@@ -14,7 +14,7 @@ abbrev pub Front : List ℕ → ℕ → List ℕ → Type 0
 Front s r front = (take r s ≡ front) × (r ≤ length s)
 
 -- at most n of them
-pub take_least : (n r : ℕ) (s : List ℕ) → r ≡ min n (length s) → take r s ≡ take n s
+pub take_least : {A : Type 0} (n r : ℕ) (s : List A) → r ≡ min n (length s) → take r s ≡ take n s
 take_least n r s e = by (leb n (length s)) refl
   where
     by : (t : Bool) → leb n (length s) ≡ t → take r s ≡ take n s

@@ -1,10 +1,8 @@
 // What is held between two reads: the whole lines of it, and its move to the front. No input or output here.
 #![tactic(auto)]
 
-mod byte_moves;
 mod feeds;
-mod word_moves;
+mod moves;
 
-pub use byte_moves::bytes_up;
 pub use feeds::whole;
-pub use word_moves::words_up;
+pub use moves::move_up;

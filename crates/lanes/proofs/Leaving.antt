@@ -7,9 +7,8 @@ use native.Mathlib.Omega.{arith}
 use borrow.Author.Tests.{le-leb, lt-leb}
 use lib.Dec.{leb}
 use lib.ListN.{length, get_or, take, drop, length-drop}
-use lib.Seq.{sets, drop-length, get_or-take, get_or-drop, length-take-le, take-add, take-length}
+use lib.Seq.{sets, drop-length, get_or-drop, take-add, take-length}
 use Rattle.held.specs.Moves.{piece}
-use Rattle.held.proofs.Fronts.{between}
 use Rattle.held.proofs.Copies.{Moved}
 use Rattle.probes.specs.Records.{records, records_of, words_of, time_of}
 use Rattle.probes.specs.Joins.{joined, number_of}
@@ -153,82 +152,60 @@ module _ (a b : List ℕ) (room : ℕ) (h : number_of a b room ≡ 0) where
 
 -- ---- the rest moves up
 
--- the end of the first n words of a list
-end_moves : (d : List ℕ) (n left : ℕ) (kept : List ℕ) → n ≤ length d → left ≤ n → kept ≡ drop (n - left) (take n d)
-    → (r : ℕ) (d' : List ℕ) → Moved d (n - left) left d' r → (r ≡ length kept) × (d' ≡ sets d 0 kept)
+-- the end of a list
+end_moves : (d : List ℕ) (left : ℕ) (kept : List ℕ) → left ≤ length d → kept ≡ drop (length d - left) d
+    → (r : ℕ) (d' : List ℕ) → Moved d (length d - left) left d' r → (r ≡ length kept) × (d' ≡ sets d 0 kept)
 unfolding piece
-end_moves d n left kept h k e r d' g =
-    let f : n - (n - left) ≡ left = omega arith in
-    let p : piece (n - left) left d ≡ kept
-    = sym (between d (n - left) n (omega arith) h ∙ ap (λ (m : ℕ). take m (drop (n - left) d)) f) ∙ sym e in
+end_moves d left kept h e r d' g =
+    let f : length d - (length d - left) ≡ left = omega arith in
+    let l = length-drop (length d - left) d in
+    let p : piece (length d - left) left d ≡ kept
+    = ap (λ (m : ℕ). take m (drop (length d - left) d)) (sym (l ∙ f)) ∙ take-length (drop (length d - left) d) ∙ sym e in
     (g.0 ∙ ap length p, g.1 ∙ ap (sets d 0) p)
 
 no_words : (s : List ℕ) → length s ≡ 0 → s ≡ []
 no_words [] h = refl
 no_words (x ∷ s) h = absurd (omega arith)
 
-module _ (first : List ℕ) (n : ℕ) (second : List ℕ) (m left : ℕ) (v : Leaves first n second m left) where
-  abbrev a : List ℕ
-  a = take n first
-
-  abbrev b : List ℕ
-  b = take m second
-
-  pub none_moves : left ≡ 0 → MovesUp first n second m first second (record { first = 0; second = 0 })
+module _ (a b : List ℕ) (rest : ℕ) (v : Leaves a b rest) where
+  pub none_moves : rest ≡ 0 → MovesUp a b a b (record { first = 0; second = 0 })
   none_moves z =
       let w = v.words in
       let p = no_words (kept_first a b) (omega arith) in
       let q = no_words (kept_second a b) (omega arith) in
       record { firsts = omega arith; seconds = omega arith; moved_first = rw p; moved_second = rw q }
 
-  module _ (z : left ≡ 0 → ⊥) where
-    la : length a ≡ n
-    la = length-take-le n first v.first_in
-
-    lb : length b ≡ m
-    lb = length-take-le m second v.second_in
-
-    some_kept : length (kept_first a b) + length (kept_second a b) ≡ 0 → ⊥
+  module _ (z : rest ≡ 0 → ⊥) where
+    some_kept : left a b v.room v.accepted ≡ 0 → ⊥
     some_kept y = z (v.words ∙ y)
 
-    pub nine_each : (9 ≤ n) × (9 ≤ m)
-    nine_each = let e = enough a b v.room v.accepted some_kept in let x = la in let y = lb in (omega arith, omega arith)
-
-    first_end : get_or a (length a - 9) 0 ≡ get_or first (n - 9) 0
-    first_end = let e = nine_each in rw la (get_or-take n first (n - 9) 0 (omega arith))
-
-    second_end : get_or b (length b - 9) 0 ≡ get_or second (m - 9) 0
-    second_end = let e = nine_each in rw lb (get_or-take m second (m - 9) 0 (omega arith))
-
-    abbrev kept : ℕ
-    kept = length (kept_first a b) + length (kept_second a b)
+    pub nine_each : (9 ≤ length a) × (9 ≤ length b)
+    nine_each = enough a b v.room v.accepted some_kept
 
     -- the first is used up
-    module _ (l : get_or first (n - 9) 0 ≤ get_or second (m - 9) 0) where
-      used_first : (kept_first a b ≡ []) × (kept ≤ length b) × (kept_second a b ≡ drop (length b - kept) b)
-      used_first = second_left a b v.room v.accepted some_kept (let x = first_end in let y = second_end in omega arith)
+    module _ (l : get_or a (length a - 9) 0 ≤ get_or b (length b - 9) 0) where
+      used_first : (kept_first a b ≡ []) × (left a b v.room v.accepted ≤ length b) × (kept_second a b ≡ drop (length b - left a b v.room v.accepted) b)
+      used_first = second_left a b v.room v.accepted some_kept l
 
-      pub second_fits : left ≤ m
-      second_fits = let u = used_first.1 in let w = v.words in let y = lb in omega arith
+      pub second_fits : rest ≤ length b
+      second_fits = let u = used_first.1 in let w = v.words in omega arith
 
-      pub second_moves : (r : ℕ) (second' : List ℕ) → Moved second (m - left) left second' r
-          → MovesUp first n second m first second' (record { first = 0; second = r })
-      second_moves r second' g =
+      pub second_moves : (r : ℕ) (b' : List ℕ) → Moved b (length b - rest) rest b' r → MovesUp a b a b' (record { first = 0; second = r })
+      second_moves r b' g =
           let u = used_first in
-          let e = end_moves second m left (kept_second a b) v.second_in second_fits (u.2 ∙ rw (lb, ← v.words)) r second' g in
+          let e = end_moves b rest (kept_second a b) second_fits (u.2 ∙ rw v.words) r b' g in
           record { firsts = sym (ap length u.0); seconds = e.0; moved_first = rw u.0; moved_second = e.1 }
 
     -- the second is used up
-    module _ (l : get_or second (m - 9) 0 < get_or first (n - 9) 0) where
-      used_second : (kept_second a b ≡ []) × (kept ≤ length a) × (kept_first a b ≡ drop (length a - kept) a)
-      used_second = first_left a b v.room v.accepted some_kept (let x = first_end in let y = second_end in omega arith)
+    module _ (l : get_or b (length b - 9) 0 < get_or a (length a - 9) 0) where
+      used_second : (kept_second a b ≡ []) × (left a b v.room v.accepted ≤ length a) × (kept_first a b ≡ drop (length a - left a b v.room v.accepted) a)
+      used_second = first_left a b v.room v.accepted some_kept l
 
-      pub first_fits : left ≤ n
-      first_fits = let u = used_second.1 in let w = v.words in let x = la in omega arith
+      pub first_fits : rest ≤ length a
+      first_fits = let u = used_second.1 in let w = v.words in omega arith
 
-      pub first_moves : (r : ℕ) (first' : List ℕ) → Moved first (n - left) left first' r
-          → MovesUp first n second m first' second (record { first = r; second = 0 })
-      first_moves r first' g =
+      pub first_moves : (r : ℕ) (a' : List ℕ) → Moved a (length a - rest) rest a' r → MovesUp a b a' b (record { first = r; second = 0 })
+      first_moves r a' g =
           let u = used_second in
-          let e = end_moves first n left (kept_first a b) v.first_in first_fits (u.2 ∙ rw (la, ← v.words)) r first' g in
+          let e = end_moves a rest (kept_first a b) first_fits (u.2 ∙ rw v.words) r a' g in
           record { firsts = e.0; seconds = sym (ap length u.0); moved_first = e.1; moved_second = rw u.0 }

@@ -6,7 +6,7 @@ use mathlib.Core.List.{List, [], ◌∷◌}
 use mathlib.Core.Option.{Option, none, some}
 use native.Mathlib.Omega.{arith}
 use borrow.Author.Tests.{eq-eqb, le-ltb, ltb-false}
-use lib.Dec.{ltb}
+use lib.Dec.{eqb, ltb}
 use lib.ListN.{length, take, drop, length-append, length-take, length-drop}
 use lib.Seq.{sets, sets-eq, take-append_seam, drop-length}
 use Rattle.text.specs.Reading.{fields_of, values_of}
@@ -209,6 +209,21 @@ sent a b room out z =
     let s = text_short rs in
     let r = room_for a b room (length out) z in
     rw (eq-eqb _ 0 z) (front (text_of rs) out (omega (arith, f.1, so_many a, so_many b)))
+
+-- what is left of a list is no longer than it
+pub left_fits : (a b : List ℕ) (room bytes : ℕ) → (length (left_first a b room bytes) ≤ length a) × (length (left_second a b room bytes) ≤ length b)
+unfolding left_first left_second
+left_fits a b room bytes = by (eqb (turn_number a b room bytes) 0)
+  where
+    by : (t : Bool) → (length (pick t (words_of (part_of (records_of a) (records_of b)).first) a) ≤ length a)
+        × (length (pick t (words_of (part_of (records_of a) (records_of b)).second) b) ≤ length b)
+    by true =
+        let l = left_nine (records_of a) (records_of b) (all_nine a) (all_nine b) in
+        let f = left_few (records_of a) (records_of b) in
+        let u = words_long l.0 in
+        let v = words_long l.1 in
+        (omega (arith, f.0, so_many a), omega (arith, f.1, so_many b))
+    by false = (omega arith, omega arith)
 
 module _ (first : List ℕ) (n : ℕ) (second : List ℕ) (m room bytes : ℕ) (z : turn_number (take n first) (take m second) room bytes ≡ 0) where
   abbrev a : List ℕ

@@ -1,21 +1,21 @@
 -- What is printed of a join, and what the join leaves. Assumes nothing.
-use Prim.Native.Nat.{ℕ, ◌+◌, ◌-◌, ◌*◌, ◌≤◌, ◌<◌}
+use Prim.Native.Nat.{ℕ, ◌+◌, ◌*◌, ◌≤◌, ◌<◌}
 use mathlib.Core.Path.{◌≡◌, refl, sym, ap, ◌∙◌}
-use mathlib.Core.Bool.{Bool, true, false, ◌||◌, cond as pick}
+use mathlib.Core.Bool.{Bool, true, false, cond as pick}
 use mathlib.Core.List.{List, [], ◌∷◌, ◌++◌}
 use mathlib.Core.Logic.{◌⊎◌, inl, inr, ⊎_elim}
 use native.Mathlib.Omega.{arith}
 use native.Mathlib.Nat.{zero-add}
-use borrow.Author.Tests.{eq-eqb, ne_eqb, eqb-true, eqb-false}
-use lib.Dec.{eqb}
+use borrow.Author.Tests.{eq-eqb, ne_eqb}
 use lib.ListN.{length, take, drop, length-append, length-drop}
 use lib.Seq.{sets, sets-eq}
 use denote.Ref.{Bor}
-use Rattle.held.proofs.Fronts.{less_none}
 use Rattle.probes.specs.Records.{records_of, words_of}
-use Rattle.probes.specs.Joins.{Joined, stop, joined, number_of, join_of, From, Joins}
+use Rattle.probes.specs.declared.joining.Refusal.{Refusal}
+use Rattle.probes.specs.declared.joining.Refusal.TheVariants.{Uneven, NoRoom, TimeFalls}
+use Rattle.probes.specs.Joins.{Joined, stop, joined, number_for, number_of, join_of, From, Joins}
 use Rattle.probes.proofs.Merging.{by_steps, first_used_up, second_used_up}
-use Rattle.probes.proofs.Refusals.{neither, accepted}
+use Rattle.probes.proofs.Refusals.{accepted}
 use Rattle.probes.proofs.Words.{all_nine, joined_nine, words_long, so_many}
 use Rattle.probes.proofs.Answers.{took}
 use Rattle.probes.proofs.Laws.{written_records, all_words}
@@ -24,9 +24,11 @@ use Rattle.lanes.specs.Parts.{Part, part_of}
 use Rattle.lanes.specs.Steps.{join_text, kept_first, kept_second, Prints}
 use Rattle.lanes.proofs.Leaving.{words_from, taken_in, part_some}
 
-either : (a b : Bool) → a || b ≡ true → (a ≡ true) ⊎ (b ≡ true)
-either true b e = inl refl
-either false b e = inr e
+-- a refusal has a number
+pub some_number : (why : Refusal) → number_for why ≡ 0 → ⊥
+some_number Uneven e = omega arith
+some_number NoRoom e = omega arith
+some_number TimeFalls e = omega arith
 
 -- as many records are written as are taken of both lists
 pub as_written : (xs ys : List (List ℕ)) → length (joined xs ys).written ≡ (joined xs ys).firsts + (joined xs ys).seconds
@@ -62,7 +64,7 @@ module _ (A B : Bor (List ℕ)) (third : List ℕ) (number count : ℕ) (third' 
       g.written ∙ ap (λ (n : ℕ). words ++ drop n third) c ∙ sym (sets-eq words third 0 (omega arith) ∙ rw (zero-add (length words)))
 
   -- a refused join puts nothing
-  pub prints_refused : (out : List ℕ) → (number ≡ 0 → ⊥) → Prints a b third out third' out (record { number = number; left = 0; written = 0 })
+  pub prints_refused : (out : List ℕ) → (number ≡ 0 → ⊥) → Prints a b third out third' out number 0 0
   unfolding join_text
   prints_refused out z =
       let n = ne_eqb (number_of a b room) 0 (λ e. z (g.numbered ∙ e)) in
@@ -75,7 +77,7 @@ module _ (A B : Bor (List ℕ)) (third : List ℕ) (number count : ℕ) (third' 
     -- what is printed is the text of these words
     prints : (left : ℕ) → left ≡ length (kept_first a b) + length (kept_second a b) → (ws : List ℕ) → records_of ws ≡ (part_of (records_of a) (records_of b)).printed
         → (out out' : List ℕ) (w : ℕ) → w ≡ length (text_of (records_of ws)) → out' ≡ sets out 0 (text_of (records_of ws))
-        → Prints a b third out third' out' (record { number = number; left = left; written = w })
+        → Prints a b third out third' out' number left w
     unfolding join_text
     prints l k ws e out out' w p q =
         let n = eq-eqb (number_of a b room) 0 accept in
@@ -131,23 +133,20 @@ module _ (A B : Bor (List ℕ)) (third : List ℕ) (number count : ℕ) (third' 
     none_of s e = let o = so_many s in omega arith
 
     module _ (out out' : List ℕ) (w : ℕ) where
-      pub prints_rest : eqb (length a) 0 || eqb (length b) 0 ≡ true → w ≡ length (text_of (records_of rest.now)) → out' ≡ sets out 0 (text_of (records_of rest.now))
-          → Prints a b third out third' out' (record { number = number; left = 0; written = w })
+      pub prints_rest : (length a ≡ 0) ⊎ (length b ≡ 0) → w ≡ length (text_of (records_of rest.now)) → out' ≡ sets out 0 (text_of (records_of rest.now))
+          → Prints a b third out third' out' number 0 w
       prints_rest e p q =
-          let h = ⊎_elim (λ u. inl (none_of a (eqb-true _ _ u))) (λ u. inr (none_of b (eqb-true _ _ u))) (either _ _ e) in
+          let h = ⊎_elim (λ u. inl (none_of a u)) (λ u. inr (none_of b u)) e in
           let r = rest_shown (records_of a) (records_of b) refl refl h in
           prints 0 r.1 rest.now r.0 out out' w p q
 
-      pub prints_join : eqb (length a) 0 || eqb (length b) 0 ≡ false → w ≡ length (text_of (records_of (take (count - 0) third')))
-          → out' ≡ sets out 0 (text_of (records_of (take (count - 0) third')))
-          → Prints a b third out third' out' (record { number = number; left = length rest.now; written = w })
-      prints_join e p q =
-          let n = neither _ _ e in
-          let n₁ = eqb-false (length a) 0 n.0 in
-          let n₂ = eqb-false (length b) 0 n.1 in
+      pub prints_join : (length a ≡ 0 → ⊥) → (length b ≡ 0 → ⊥) → w ≡ length (text_of (records_of (take count third')))
+          → out' ≡ sets out 0 (text_of (records_of (take count third')))
+          → Prints a b third out third' out' number (length rest.now) w
+      prints_join m n p q =
           let k = accepted a b room accept in
-          let r = join_shown (omega (arith, n₁, k.first_even, so_many a)) (omega (arith, n₂, k.second_even, so_many b)) in
-          prints (length rest.now) r.1 (take (count - 0) third') (ap (λ (m : ℕ). records_of (take m third')) (less_none count) ∙ r.0) out out' w p q
+          let r = join_shown (omega (arith, m, k.first_even, so_many a)) (omega (arith, n, k.second_even, so_many b)) in
+          prints (length rest.now) r.1 (take count third') r.0 out out' w p q
 
     -- there is room for the rest, and for what the join wrote
     pub all_fit : (count ≤ length a + length b) × (length rest.now ≤ length a + length b)

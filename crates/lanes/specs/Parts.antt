@@ -4,11 +4,12 @@ use Rattle.std.proofs.lemmas.List.Edits.{sets}
 use Rattle.text.specs.Lines.{lines_of, passed_by}
 use Rattle.held.specs.Wholes.{whole_of}
 use Rattle.probes.specs.Records.{records_of, words_of}
-use Rattle.probes.specs.Joins.{Joined, joined, number_of, join_of}
+use Rattle.probes.specs.Joins.{Joined, joined, number_for, number_of, join_of}
 use Rattle.lanes.specs.declared.loading.Loaded.{Loaded}
 use Rattle.lanes.specs.declared.turning.Turned.{Turned}
 use Rattle.lanes.specs.Files.{Read, read_lines}
 use Rattle.lanes.specs.Program.{text_of}
+use Rattle.lanes.specs.Refusals.{number_of_line, number_in, line_refused, turn_refused}
 
 -- ---- a part is read
 
@@ -35,12 +36,13 @@ loaded t s last room k =
       count = 9 * length (part_read t s last room k).records;
       held = length (unread t s last room k);
       time = (part_read t s last room k).time;
-      number = (part_read t s last room k).number;
+      refused = line_refused (part_read t s last room k).number;
     }
 
--- what `load` gives for the first `held` bytes of a buffer: what it returns, the words of the records read, and the bytes still to be read at the front
+-- what `load` gives for the first `held` bytes of a buffer: what it returns, with the number of the line that is refused, the words of the records read, and the bytes still to be read at the front
 pub record Loads (t : ℕ) (buf : List ℕ) (held : ℕ) (last : Bool) (words words' buf' : List ℕ) (r : Loaded) : Type 0 where
   pub returned : r ≡ loaded t (take held buf) last (length buf) (length words / 9)
+  pub number : number_in number_of_line r.refused ≡ (part_read t (take held buf) last (length buf) (length words / 9)).number
   pub records : words' ≡ sets words 0 (words_of (part_read t (take held buf) last (length buf) (length words / 9)).records)
   pub bytes : buf' ≡ sets buf 0 (unread t (take held buf) last (length buf) (length words / 9))
 
@@ -85,15 +87,16 @@ third_words a b room bytes = pick (eqb (turn_number a b room bytes) 0) (words_of
 unfoldable pub turned : List ℕ → List ℕ → ℕ → ℕ → Turned
 turned a b room bytes =
     record {
-      number = turn_number a b room bytes;
+      refused = turn_refused (turn_number a b room bytes);
       first = length (left_first a b room bytes);
       second = length (left_second a b room bytes);
       written = length (turn_text a b room bytes);
     }
 
--- what `turn` gives for the first n words of one list and the first m of another: what it returns, what is left at the front of both, the words of the join, and its text
+-- what `turn` gives for the first n words of one list and the first m of another: what it returns, with its number, what is left at the front of both, the words of the join, and its text
 pub record Turns (first : List ℕ) (n : ℕ) (second : List ℕ) (m : ℕ) (third out first' second' third' out' : List ℕ) (r : Turned) : Type 0 where
   pub returned : r ≡ turned (take n first) (take m second) (length third) (length out)
+  pub number : number_in number_for r.refused ≡ turn_number (take n first) (take m second) (length third) (length out)
   pub firsts : first' ≡ sets first 0 (left_first (take n first) (take m second) (length third) (length out))
   pub seconds : second' ≡ sets second 0 (left_second (take n first) (take m second) (length third) (length out))
   pub thirds : third' ≡ sets third 0 (third_words (take n first) (take m second) (length third) (length out))

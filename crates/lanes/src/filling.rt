@@ -3,28 +3,49 @@ ghost use Rattle.std.specs.Prelude.{◌+◌, ◌/◌, ◌≤◌, ◌≡◌, leng
 ghost use Rattle.std.proofs.lemmas.List.Edits.{sets};
 ghost use Rattle.probes.specs.Records.{words_of};
 ghost use Rattle.lanes.specs.Parts.{read_in};
-ghost use Rattle.lanes.specs.Steps.{filled, line_number};
+ghost use Rattle.lanes.specs.Refusals.{number_of_line};
+ghost use Rattle.lanes.specs.Steps.{accepted, filled};
 
-// How many words were put, the place of the first line that was not read, the last time, and the number of that line.
+// Why a line is refused.
+#[derive(Clone, Copy, PartialEq, Eq, Debug)]
+pub enum LineRefusal {
+    // it is not nine numbers
+    Unreadable,
+    // its time is below the one before it
+    TimeFalls,
+}
+
+impl LineRefusal {
+    // The number that is told of such a line.
+    pub fn number(self) -> u32
+        ensures { result ≡ number_of_line self }
+    {
+        match self {
+            LineRefusal::Unreadable => 22,
+            LineRefusal::TimeFalls => 24,
+        }
+    }
+}
+
+// How many words were put, the place of the first line that was not read, the last time, and why that line is refused.
 #[derive(Clone, Copy)]
 pub(crate) struct Filled {
     pub(crate) count: usize,
     pub(crate) next: usize,
     pub(crate) time: u32,
-    pub(crate) number: u32,
+    pub(crate) refused: Option<LineRefusal>,
 }
 
-// The number of a line: 22 if it is not readable, 24 if its time is below the last.
-fn line_number(readable: bool, time: u32, last: u32) -> u32
-    ensures { result ≡ line_number readable time last }
+// The numbers of a line that comes after a time.
+#[tactic(auto, unfolding(crate::specs::Steps::accepted))]
+fn accept(numbers: Option<[u32; 9]>, last: u32) -> Result<[u32; 9], LineRefusal>
+    ensures { result ≡ accepted numbers last }
 {
-    if !readable {
-        return 22;
+    let record = numbers.ok_or(LineRefusal::Unreadable)?;
+    if record[0] < last {
+        return Err(LineRefusal::TimeFalls);
     }
-    if time < last {
-        return 24;
-    }
-    0
+    Ok(record)
 }
 
 // Puts nine words from place `at` on.
@@ -32,11 +53,7 @@ fn store(dst: &mut [u32], at: usize, w: [u32; 9])
     requires { at + 9 ≤ length dst.old }
     ensures { dst.new ≡ sets dst.old at w }
 {
-    let mut k: usize = 0;
-    while k < 9 {
-        dst[at + k] = w[k];
-        k += 1;
-    }
+    dst[at..at + 9].copy_from_slice(&w);
 }
 
 // Reads lines of `s` after a time as records, as many as there is room for, up to the first that is refused.
@@ -44,32 +61,34 @@ pub(crate) fn fill(time: u32, s: &[u8], words: &mut [u32]) -> Filled
     ensures value { result ≡ filled time s.now (length words.old / 9) }
     ensures words_after { words.new ≡ sets words.old 0 (words_of (read_in (length words.old / 9) s.now time).records) }
 {
-    let n = s.len();
-    let k = words.len() / 9;
-    let mut i: usize = 0;
-    let mut j: usize = 0;
-    let mut last = time;
-    while (j < k) & (i < n) {
-        let t = text::take_nine(s, i);
-        let w = t.words;
-        let number = line_number(t.readable, w[0], last);
-        if number != 0 {
-            return Filled {
-                count: 9 * j,
-                next: i,
-                time: last,
-                number,
-            };
+    let mut so_far = Filled {
+        count: 0,
+        next: 0,
+        time,
+        refused: None,
+    };
+    for j in 0..words.len() / 9 {
+        if s.len() <= so_far.next {
+            return so_far;
         }
-        store(words, 9 * j, w);
-        last = w[0];
-        i = t.next;
-        j += 1;
+        let line = text::take_nine(s, so_far.next);
+        match accept(line.numbers, so_far.time) {
+            Ok(record) => {
+                store(words, 9 * j, record);
+                so_far = Filled {
+                    count: 9 * j + 9,
+                    next: line.next,
+                    time: record[0],
+                    refused: None,
+                };
+            }
+            Err(why) => {
+                return Filled {
+                    refused: Some(why),
+                    ..so_far
+                };
+            }
+        }
     }
-    Filled {
-        count: 9 * j,
-        next: i,
-        time: last,
-        number: 0,
-    }
+    so_far
 }

@@ -7,5 +7,6 @@ mod loading;
 mod printing;
 mod turning;
 
+pub use filling::LineRefusal;
 pub use loading::{Loaded, load};
 pub use turning::{Turned, turn};

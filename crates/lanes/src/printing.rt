@@ -10,12 +10,9 @@ pub(crate) fn print(out: &mut [u8], words: &[u32]) -> usize
     ensures value { result ≡ length (text_of (records_of words.now)) }
     ensures out_after { out.new ≡ sets out.old 0 (text_of (records_of words.now)) }
 {
-    let n = words.len();
-    let mut i: usize = 0;
-    let mut at: usize = 0;
-    while 9 <= n - i {
-        at += writing::line(out, at, &words[i..i + 9]);
-        i += 9;
+    let mut at = 0;
+    for record in words.chunks_exact(9) {
+        at += writing::line(out, at, record);
     }
     at
 }

@@ -1,6 +1,8 @@
 -- The join of two probes' lists into a third (document 02, T-02). Assumes nothing.
-use Rattle.std.specs.Prelude.{ℕ, suc, ◌+◌, ◌*◌, ◌%◌, Bool, true, false, not, ◌||◌, cond as pick, List, [], ◌∷◌, ◌++◌, ◌≡◌, leb, ltb, eqb, length, drop}
+use Rattle.std.specs.Prelude.{Result, Ok, Err, ℕ, suc, ◌+◌, ◌*◌, ◌%◌, Bool, true, false, not, ◌||◌, cond as pick, List, [], ◌∷◌, ◌++◌, ◌≡◌, leb, ltb, eqb, length, drop}
 use Rattle.std.specs.Borrow.{Bor}
+use Rattle.probes.specs.declared.joining.Refusal.{Refusal}
+use Rattle.probes.specs.declared.joining.Refusal.TheVariants.{Uneven, NoRoom, TimeFalls}
 use Rattle.probes.specs.Records.{records_of, words_of, time_of, falls}
 
 -- ---- by time, until one list is used up
@@ -39,6 +41,22 @@ joined (a ∷ more) bs = ahead a (joined more) bs
 -- a length not a multiple of nine
 abbrev pub uneven : ℕ → Bool
 uneven n = not (eqb (n % 9) 0)
+
+-- a refusal's number
+abbrev pub number_for : Refusal → ℕ
+number_for Uneven = 20
+number_for NoRoom = 21
+number_for TimeFalls = 24
+
+-- the number of what may be refused; 0 if it is not
+abbrev pub number_in : {T : Type 0} → Result T Refusal → ℕ
+number_in (Ok x) = 0
+number_in (Err why) = number_for why
+
+-- how many words are written; none by a join that is refused
+abbrev pub count_in : Result ℕ Refusal → ℕ
+count_in (Ok n) = n
+count_in (Err why) = 0
 
 -- the numbers in their order, by three tests: 20 by that of the lengths (l), 21 by that of the room (r), 24 by that of the times (t); 0 if none passes
 unfoldable pub number_by : Bool → Bool → Bool → ℕ

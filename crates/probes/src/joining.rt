@@ -1,6 +1,6 @@
 // Two lists of records are joined into a third by time.
 ghost use Rattle.std.specs.Prelude.{◌+◌, ◌%◌, ◌≤◌, false, ◌||◌, ◌≡◌, ltb, length};
-ghost use Rattle.probes.specs.Joins.{uneven, number_by, number_of, Joins};
+ghost use Rattle.probes.specs.Joins.{uneven, number_for, number_in, count_in, number_by, number_of, Joins};
 ghost use Rattle.probes.specs.Parts.{Merges};
 
 use crate::records::{put, record_at, time_falls};
@@ -13,31 +13,42 @@ struct Merged {
     done: bool,
 }
 
-// The number of a join of so many words into a list of `room` words, by these lengths alone.
-fn length_refusal(n: usize, m: usize, room: usize) -> u32
-    ensures { result ≡ number_by (uneven n || uneven m) (ltb room (n + m)) false }
-{
-    if (n % 9 != 0) | (m % 9 != 0) {
-        return 20;
-    }
-    if room < n {
-        return 21;
-    }
-    if room - n < m { 21 } else { 0 }
+/// Why a join is refused: a list whose length is no multiple of nine, a third list that cannot hold both, a time that falls.
+#[derive(Clone, Copy, PartialEq, Eq, Debug)]
+pub enum Refusal {
+    Uneven,
+    NoRoom,
+    TimeFalls,
 }
 
-// The number of a join into a list of `room` words; 0 if it is not refused.
-fn refusal(first: &[u32], second: &[u32], room: usize) -> u32
-    ensures { result ≡ number_of first.now second.now room }
+impl Refusal {
+    // The refusal's number.
+    pub fn number(self) -> u32
+        ensures { result ≡ number_for self }
+    {
+        match self {
+            Refusal::Uneven => 20,
+            Refusal::NoRoom => 21,
+            Refusal::TimeFalls => 24,
+        }
+    }
+}
+
+// Whether a join into a list of `room` words is refused.
+#[tactic(auto, unfolding(crate::specs::Joins::number_of, crate::specs::Joins::number_by))]
+fn check(first: &[u32], second: &[u32], room: usize) -> Result<(), Refusal>
+    ensures { number_in result ≡ number_of first.now second.now room }
 {
-    let by_length = length_refusal(first.len(), second.len(), room);
-    if by_length != 0 {
-        return by_length;
+    if first.len() % 9 != 0 || second.len() % 9 != 0 {
+        return Err(Refusal::Uneven);
     }
-    if time_falls(first) {
-        return 24;
+    if room < first.len() + second.len() {
+        return Err(Refusal::NoRoom);
     }
-    if time_falls(second) { 24 } else { 0 }
+    if time_falls(first) || time_falls(second) {
+        return Err(Refusal::TimeFalls);
+    }
+    Ok(())
 }
 
 // Puts records of both lists into the third, by time, until one list is used up.
@@ -65,30 +76,32 @@ fn merge(first: &[u32], second: &[u32], third: &mut [u32]) -> Merged
     }
 }
 
+// What a join gives: how many words it wrote, or why it is refused; and the rest of the list that is not used up.
+#[derive(Clone, Copy)]
+pub struct Joined<'a> {
+    pub count: Result<usize, Refusal>,
+    pub rest: &'a [u32],
+}
+
 // Joins two lists of records into the third by time, equal times taking the first list's record first, until one list is used up.
-// Hands back the rest of the other; `number` is 0 and `count` how many words are written. A refused join writes nothing and hands back
-// the first list: `number` is 20 for a length not a multiple of nine, 21 if the third list cannot hold both, 24 for a time that falls.
-pub fn join<'a>(
-    first: &'a [u32],
-    second: &'a [u32],
-    third: &mut [u32],
-    number: &mut u32,
-    count: &mut usize,
-) -> &'a [u32]
-    ensures { Joins first.entry second.entry third.old number.new count.new third.new result }
+// Hands back the rest of the other, and how many words are written. A refused join writes nothing and hands back the first list.
+pub fn join<'a>(first: &'a [u32], second: &'a [u32], third: &mut [u32]) -> Joined<'a>
+    ensures { Joins first.entry second.entry third.old (number_in result.count) (count_in result.count) third.new result.rest }
 {
-    let refused = refusal(first, second, third.len());
-    *number = refused;
-    if refused != 0 {
-        *count = 0;
-        return first;
+    if let Err(why) = check(first, second, third.len()) {
+        return Joined {
+            count: Err(why),
+            rest: first,
+        };
     }
     let t = merge(first, second, third);
-    let i = t.first;
-    let j = t.second;
-    *count = i + j;
-    if t.done {
-        return &second[j..];
+    let rest = if t.done {
+        &second[t.second..]
+    } else {
+        &first[t.first..]
+    };
+    Joined {
+        count: Ok(t.first + t.second),
+        rest,
     }
-    &first[i..]
 }

@@ -9,6 +9,7 @@ use borrow.Author.Tests.{eqb-true, eqb-false, leb-true, leb-false, le-leb, eq-eq
 use lib.Dec.{leb, eqb}
 use lib.ListN.{length, get_or, drop, set, replicate}
 use lib.Seq.{sets, sets-eq}
+use Rattle.std.specs.Prelude.{Some}
 use Rattle.text.specs.declared.numbers.Number.{Number}
 use Rattle.text.specs.declared.reading.Taken.{Taken}
 use Rattle.text.specs.declared.nines.Nine.{Nine}
@@ -40,7 +41,7 @@ front_step d w k h =
 
 -- a number before a line of eight
 unfoldable with_field : ℕ → Taken → Nine
-with_field v t = pick (eqb t.count 8) (record { readable = true; words = v ∷ t.words; next = t.next }) (nined none t.next)
+with_field v t = pick (eqb t.count 8) (record { numbers = Some (v ∷ t.words); next = t.next }) (nined none t.next)
 
 field_some : (v : ℕ) (ns : List ℕ) (next : ℕ) (t u : Bool) → eqb (length ns) 8 ≡ t → leb (length ns) 8 ≡ u
     → nined (exactly 9 (some (v ∷ ns))) next ≡ with_field v (packed (some ns) next)
@@ -129,7 +130,7 @@ module _ (s : List ℕ) (from : ℕ) (r : Number) (f : Found s from r) where
         let b = tab_in s r.end (sym (f.after (far n)) ∙ e) in
         ap (with_field r.value) h ∙ tab_next (far n) b.0 b.1
 
-    pub nine_eight : t.count ≡ 8 → (w : List ℕ) → w ≡ r.value ∷ t.words → record { readable = true; words = w; next = t.next } ≡ nine_at s from
+    pub nine_eight : t.count ≡ 8 → (w : List ℕ) → w ≡ r.value ∷ t.words → record { numbers = Some w; next = t.next } ≡ nine_at s from
     unfolding with_field
     nine_eight c w d = rw d (rw (eq-eqb t.count 8 c) at nine_tab)
 

@@ -1,5 +1,5 @@
 -- A line of nine numbers. Assumes nothing.
-use Rattle.std.specs.Prelude.{ℕ, ◌+◌, true, false, List, drop, replicate}
+use Rattle.std.specs.Prelude.{ℕ, ◌+◌, List, drop, Some, None}
 use Rattle.std.proofs.Math.Option.{Option, none, some}
 use Rattle.text.specs.declared.nines.Nine.{Nine}
 use Rattle.text.specs.Lines.{first_line, passed}
@@ -9,10 +9,10 @@ use Rattle.text.specs.Reading.{fields_of, values_of, exactly}
 unfoldable pub nine_in : List ℕ → Option (List ℕ)
 nine_in l = exactly 9 (values_of (fields_of l))
 
--- nine numbers before the place of the next line; not readable: zeros
+-- nine numbers, if they are readable, before the place of the next line
 unfoldable pub nined : Option (List ℕ) → ℕ → Nine
-nined none next = record { readable = false; words = replicate 9 0; next = next }
-nined (some ns) next = record { readable = true; words = ns; next = next }
+nined none next = record { numbers = None; next = next }
+nined (some ns) next = record { numbers = Some ns; next = next }
 
 -- the line at a place of an input as nine numbers, and the place of the next
 unfoldable pub nine_at : List ℕ → ℕ → Nine

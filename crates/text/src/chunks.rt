@@ -5,7 +5,6 @@ ghost use Rattle.text.specs.Chunks.{Parses, room};
 ghost use Rattle.text.specs.Parts.{event_words, event_mark};
 
 use crate::reading::take;
-use crate::sizes::least;
 
 // How far a chunk was read: lines, words put, and the place of the next line.
 #[derive(Clone, Copy)]
@@ -55,8 +54,8 @@ pub fn parse(s: &[u8], most: usize, words: &mut [u32], marks: &mut [u8]) -> Pars
     ensures { Parses s.now (room most words.old marks.old) words.old marks.old words.new marks.new result }
 {
     let n = s.len();
-    let some = least(words.len() / 8, marks.len());
-    let k = least(most, some);
+    let some = (words.len() / 8).min(marks.len());
+    let k = most.min(some);
     let mut i: usize = 0;
     let mut lines: usize = 0;
     let mut at: usize = 0;

@@ -5,9 +5,7 @@ mod chunks;
 mod nines;
 mod numbers;
 mod reading;
-mod sizes;
 
 pub use chunks::{Parsed, parse};
 pub use nines::{Nine, take_nine};
 pub use reading::{Taken, take};
-pub use sizes::least;

@@ -6,11 +6,10 @@ ghost use Rattle.text.specs.Nines.{nined, nine_at};
 use crate::numbers::field;
 use crate::reading::{skip, take};
 
-// A line of nine numbers that was read: whether it is one, its numbers (not readable: all zero), and the place of the next line.
+// A line of nine numbers that was read: its numbers, if it is one, and the place of the next line.
 #[derive(Clone, Copy)]
 pub struct Nine {
-    pub readable: bool,
-    pub words: [u32; 9],
+    pub numbers: Option<[u32; 9]>,
     pub next: usize,
 }
 
@@ -19,8 +18,7 @@ fn no_nine(next: usize) -> Nine
     ensures { result ≡ nined none next }
 {
     Nine {
-        readable: false,
-        words: [0u32; 9],
+        numbers: None,
         next,
     }
 }
@@ -59,8 +57,7 @@ pub fn take_nine(s: &[u8], from: usize) -> Nine
     }
     let w = t.words;
     Nine {
-        readable: true,
-        words: nine_of(f.value, w),
+        numbers: Some(nine_of(f.value, w)),
         next: t.next,
     }
 }

@@ -1,12 +1,11 @@
-use Prim.Native.Nat.{◌-◌, ◌*◌, ◌≤◌}
+use Prim.Native.Nat.{◌+◌, ◌*◌, ◌≤◌}
 use mathlib.Core.Path.{◌≡◌}
 use lib.ListN.{length}
+use Rattle.std.specs.Slice.Iter.{chunks_exact_rest, chunks_exact_size}
 use Rattle.lanes.proofs.Texts.{Texts}
 use Rattle.lanes.proofs.printing.print.Given as goal
 
-abbrev pub invariant-loop-i : goal.invariant-loop-i
-invariant-loop-i l =
-    (l.n ≡ length l.words) × (11 * l.n ≤ length l.initial.out) × (length l.out ≡ length l.initial.out) × (l.i ≤ l.n) × (l.at ≤ 11 * l.i) × Texts l.initial.out l.words l.i l.at l.out
-
-abbrev pub decreases-loop-i : goal.decreases-loop-i
-decreases-loop-i l = l.n - l.i
+abbrev pub invariant-loop-record : goal.invariant-loop-record
+invariant-loop-record l =
+    (chunks_exact_size l.record-iterator ≡ 9) × (l.at + 11 * length (chunks_exact_rest l.record-iterator) ≤ length l.initial.out)
+    × Texts l.initial.out l.words (chunks_exact_rest l.record-iterator) l.at l.out

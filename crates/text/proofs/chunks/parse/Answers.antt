@@ -7,24 +7,24 @@ use borrow.Author.Rules.{rules}
 use Rattle.text.proofs.chunks.parse.Goals as goal
 
 pub loop-lines-init : goal.loop-lines-init
-loop-lines-init c = (refl, c.least-k.ensures ∙ ap (min _) c.least-some.ensures, refl, refl, search rules, search rules, going_start _ _ _ _)
+loop-lines-init c = (refl, c.min-k.ensures ∙ ap (min _) c.min-some.ensures, refl, refl, search rules, search rules, going_start _ _ _ _)
 
 pub put_line-at-requires : goal.put_line-at-requires
 put_line-at-requires c =
     let l = c.loop-lines in
-    let h : l.lines < c.least-k.result = (both_less _ _ l.i (length c.args.s.now) c.loop-lines-test.true).0 in
+    let h : l.lines < c.min-k.result = (both_less _ _ l.i (length c.args.s.now) c.loop-lines-test.true).0 in
     omega arith
 
 pub loop-lines-smaller : goal.loop-lines-smaller
 loop-lines-smaller c =
     let l = c.loop-lines in
-    let h : l.lines < c.least-k.result = (both_less _ _ l.i (length c.args.s.now) c.loop-lines-test.true).0 in
+    let h : l.lines < c.min-k.result = (both_less _ _ l.i (length c.args.s.now) c.loop-lines-test.true).0 in
     omega arith
 
 pub loop-lines-preserved : goal.loop-lines-preserved
 loop-lines-preserved c =
     let l = c.loop-lines in
-    let h = both_less l.lines c.least-k.result l.i (length c.args.s.now) c.loop-lines-test.true in
+    let h = both_less l.lines c.min-k.result l.i (length c.args.s.now) c.loop-lines-test.true in
     let t = c.take-t in
     let p = c.put_line-at in (
       l.invariant.0,

@@ -1,8 +1,0 @@
-use native.Mathlib.Omega.{arith}
-use Rattle.text.proofs.sizes.least.Goals as goal
-
-pub returns-then-a-b : goal.returns-then-a-b
-returns-then-a-b c = omega arith
-
-pub returns-else-a-b : goal.returns-else-a-b
-returns-else-a-b c = omega arith
