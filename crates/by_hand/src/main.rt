@@ -2,9 +2,8 @@
 // batches of reads at cache 0 with lists of several lengths: number and count, and the answer words, which held 77.
 #![tactic(auto)]
 
-ghost use Rattle.std.specs.Prelude.{◌≤◌, length};
-
 use rules::cells::{Cell, Want};
+use rules::empties::empty_cell;
 use rules::events::{Answer, Event};
 use rules::numbers::Count;
 use rules::states::State;
@@ -35,15 +34,14 @@ fn event(kind: u32, node: u32) -> Event {
     }
 }
 
-// Number, word and slot with spaces between, and a line feed.
+// Number, word and slot with spaces between, and a line feed. `Answer` is another crate's type, so no `Display` is given to it here.
 fn show(rt: &impl Print, a: Answer) {
     let _ = println!(rt; "{} {} {}", a.number, a.word, a.slot);
 }
 
 // Two caches and one line of three tokens, with these three cells.
 fn with_three(first: Cell, second: Cell, memory: Cell) -> State {
-    let fresh = model::start(2, 1, 3);
-    let mut s = fresh.state;
+    let mut s = model::start(2, 1, 3).state;
     s.cells[0] = first;
     s.cells[1] = second;
     s.cells[2] = memory;
@@ -52,12 +50,11 @@ fn with_three(first: Cell, second: Cell, memory: Cell) -> State {
 
 // The same with nothing at cache 1.
 fn with_two(first: Cell, memory: Cell) -> State {
-    with_three(first, cell(0, false, false, Want::Nothing, 0), memory)
+    with_three(first, empty_cell(), memory)
 }
 
 fn said(rt: &impl Print, s: State, e: Event) {
-    let r = model::step(s, e);
-    show(rt, r.answer);
+    show(rt, model::step(s, e).answer);
 }
 
 // A step, and then a read at the same node.
@@ -72,29 +69,23 @@ fn backed(word: u32) -> Cell {
     cell(0, false, true, Want::Read, word)
 }
 
-// A batch of reads, and what it leaves: its number and count, and the first three answer words.
-fn batched(rt: &impl Print, s: State, events: &[u32], answers: &mut [u32])
-    requires { 3 ≤ length answers.old }
-{
+// A batch of reads, and what it leaves: its number and count, and the answer words by threes.
+fn batched(rt: &impl Print, s: State, events: &[u32], answers: &mut [u32]) {
     let b = model::batch(s, events, answers);
     let _ = println!(rt; "{} {}", b.number, b.count);
-    show(rt, words(answers[0], answers[1], answers[2]));
-}
-
-fn words(number: u32, word: u32, slot: u32) -> Answer {
-    Answer { number, word, slot }
+    let (threes, _) = answers.as_chunks::<3>();
+    for [number, word, slot] in threes {
+        let _ = println!(rt; "{number} {word} {slot}");
+    }
 }
 
 // Two events and nine answer words: the last three stay.
 fn two_events(rt: &impl Print, s: State) {
-    let mut nine = [77u32; 9];
-    batched(rt, s, &[0u32; 16], &mut nine);
-    show(rt, words(nine[3], nine[4], nine[5]));
-    show(rt, words(nine[6], nine[7], nine[8]));
+    batched(rt, s, &[0u32; 16], &mut [77u32; 9]);
 }
 
 fn steps(rt: &impl Print) {
-    let none = cell(0, false, false, Want::Nothing, 0);
+    let none = empty_cell();
     let waiting = cell(0, false, false, Want::Read, 0);
     // cache 0 holds all three tokens and the memory none: well formed, the read is done
     said(
@@ -127,7 +118,7 @@ fn steps(rt: &impl Print) {
 
 // Lines with no owner and no valid cell.
 fn backups(rt: &impl Print) {
-    let none = cell(0, false, false, Want::Nothing, 0);
+    let none = empty_cell();
     let waiting = cell(0, false, false, Want::Read, 0);
     let memory = cell(0, false, true, Want::Nothing, 9);
     // cache 0 wants to read and only the memory has a backup: 23; the memory's own timeout is done
@@ -146,7 +137,7 @@ fn backups(rt: &impl Print) {
 fn main(rt: HostRuntime) {
     steps(&rt);
     backups(&rt);
-    let none = cell(0, false, false, Want::Nothing, 0);
+    let none = empty_cell();
     let held = with_two(cell(3, true, false, Want::Nothing, 7), none);
     let mut three = [77u32; 3];
     let mut five = [77u32; 5];

@@ -1,87 +1,94 @@
 // One file on its way.
-use std::io;
+use crate::telling::Stop;
+use lanes::LineRefusal;
 use std::io::Read;
-use streams::read_more;
+use streams::{Failure, read_more};
 
-// The bytes that are held, the words that are to be joined, the last time, how many lines were read, and how the file ends:
-// the number of a line that is refused, the end of the file, or why a read failed.
+// How a file ends: with its last line, or before a line that is refused.
 #[derive(Clone, Copy)]
-pub(crate) struct Lane {
-    pub(crate) held: usize,
+enum End {
+    Whole,
+    Refused(LineRefusal),
+}
+
+// The file and its name, the bytes that are held, the words that are to be joined, the last time, how many lines were read, and
+// how the file ends, once that is known. A part of a file is at most 1,024 records.
+#[derive(Drop)]
+pub(crate) struct Lane<'a, R> {
+    input: R,
+    name: &'a [u8],
+    buf: [u8; 32768],
+    held: usize,
+    pub(crate) words: [u32; 9216],
     pub(crate) count: usize,
-    pub(crate) time: u32,
-    pub(crate) lines: u64,
-    pub(crate) number: u32,
-    pub(crate) ended: bool,
-    pub(crate) failed: Option<io::Error>,
+    time: u32,
+    lines: u64,
+    end: Option<End>,
 }
 
-// Before the first line.
-pub(crate) fn fresh() -> Lane {
-    Lane {
-        held: 0,
-        count: 0,
-        time: 0,
-        lines: 0,
-        number: 0,
-        ended: false,
-        failed: None,
-    }
-}
-
-// The same with so many words to be joined.
-pub(crate) fn left(x: Lane, count: usize) -> Lane {
-    Lane {
-        held: x.held,
-        count,
-        time: x.time,
-        lines: x.lines,
-        number: x.number,
-        ended: x.ended,
-        failed: x.failed,
-    }
-}
-
-// Lines that were read, and so many words more; no file has as many as a u64 holds.
-fn counted(lines: u64, words: usize) -> u64 {
-    let more = (words / 9) as u64;
-    if u64::MAX - lines < more {
-        return u64::MAX;
-    }
-    lines + more
-}
-
-// Reads once where no whole line is held, and loads what can be read.
-fn load_more<R: Read>(x: Lane, input: &mut R, buf: &mut [u8], words: &mut [u32]) -> Lane {
-    let got = read_more(input, buf, x.held);
-    let l = lanes::load(x.time, buf, got.held, got.last, words);
-    Lane {
-        held: l.held,
-        count: l.count,
-        time: l.time,
-        lines: counted(x.lines, l.count),
-        number: l.number,
-        ended: got.last & (l.held == 0),
-        failed: got.why,
-    }
-}
-
-// Loads until there are words to be joined, or the file is at its end, or a line is refused, or a read fails.
-pub(crate) fn refill<R: Read>(
-    lane: Lane,
-    input: &mut R,
-    buf: &mut [u8],
-    words: &mut [u32],
-) -> Lane {
-    let mut x = lane;
-    let mut turns = u64::MAX;
-    while turns > 0 {
-        if (x.count != 0) | (x.number != 0) | x.ended | x.failed.is_some() {
-            return x;
+impl<'a, R: Read> Lane<'a, R> {
+    // Before the first line.
+    pub(crate) fn new(input: R, name: &'a [u8]) -> Self {
+        Lane {
+            input,
+            name,
+            buf: [0; 32768],
+            held: 0,
+            words: [0; 9216],
+            count: 0,
+            time: 0,
+            lines: 0,
+            end: None,
         }
-        let next = load_more(x, input, buf, words);
-        x = next;
-        turns -= 1;
     }
-    x
+
+    // Reads once where no whole line is held, and loads what can be read.
+    fn load(&mut self) -> Result<(), Failure<'a>> {
+        let name = self.name;
+        let got = read_more(&mut self.input, &mut self.buf, self.held).map_err(|why| Failure {
+            what: name,
+            why,
+        })?;
+        let l = lanes::load(
+            self.time,
+            &mut self.buf,
+            got.held,
+            got.last,
+            &mut self.words,
+        );
+        self.held = l.held;
+        self.count = l.count;
+        self.time = l.time;
+        // no file has as many lines as a u64 holds
+        self.lines = self.lines.saturating_add((l.count / 9) as u64);
+        self.end = match l.refused {
+            Some(why) => Some(End::Refused(why)),
+            None if got.last && l.held == 0 => Some(End::Whole),
+            None => None,
+        };
+        Ok(())
+    }
+
+    // Loads until there are words to be joined, or the file is at its end. The join stops where a read fails, and where the next
+    // line is refused.
+    pub(crate) fn refill(&mut self) -> Result<(), Stop<'a>> {
+        // a loop is known to end only where its turns are counted; no file lasts so many
+        for _ in 0..u64::MAX {
+            if self.count != 0 {
+                break;
+            }
+            match self.end {
+                Some(End::Whole) => break,
+                Some(End::Refused(why)) => {
+                    return Err(Stop::Refused {
+                        name: self.name,
+                        lines: self.lines,
+                        why,
+                    });
+                }
+                None => self.load()?,
+            }
+        }
+        Ok(())
+    }
 }

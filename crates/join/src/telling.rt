@@ -1,28 +1,50 @@
 // Errors, on standard error.
-use std::io;
+use lanes::LineRefusal;
 use std::io::Write;
-use streams::tell;
+use streams::{Failure, tell};
 
-// What failed, and the error's words.
-pub(crate) fn told<E: Write>(errors: &mut E, what: &[u8], why: &io::Error) {
-    tell(errors, b"join", what, why);
+// Why the program stops before the end of both files: it is not called with two words; a read or a write failed; or the line
+// after so many of a file is refused.
+#[derive(Clone, Copy)]
+pub(crate) enum Stop<'a> {
+    Usage,
+    Failed(Failure<'a>),
+    Refused {
+        name: &'a [u8],
+        lines: u64,
+        why: LineRefusal,
+    },
 }
 
-// How the program is called.
-pub(crate) fn usage<E: Write>(errors: &mut E) {
-    let _ = errors.write_all(b"usage: join FIRST SECOND\n");
+impl<'a> From<Failure<'a>> for Stop<'a> {
+    fn from(failure: Failure<'a>) -> Self {
+        Stop::Failed(failure)
+    }
 }
 
 // The line after so many, which is refused, and why.
-pub(crate) fn refused<E: Write>(errors: &mut E, name: &[u8], lines: u64, number: u32) {
+fn refused<E: Write>(errors: &mut E, name: &[u8], lines: u64, why: LineRefusal) {
+    let words = match why {
+        LineRefusal::Unreadable => "line not readable",
+        LineRefusal::TimeFalls => "a time that falls",
+    };
     let _ = errors.write_all(name);
     let _ = errors.write_all(b": line ");
-    if lines < u64::MAX {
-        let _ = write!(errors, "{}", lines + 1);
+    if let Some(line) = lines.checked_add(1) {
+        let _ = write!(errors, "{line}");
     }
-    if number == 22 {
-        let _ = errors.write_all(b": 22: line not readable\n");
-        return;
+    let _ = write!(errors, ": {}: {words}\n", why.number());
+}
+
+impl Stop<'_> {
+    // Tells of it.
+    pub(crate) fn tell<E: Write>(&self, errors: &mut E) {
+        match *self {
+            Stop::Usage => {
+                let _ = errors.write_all(b"usage: join FIRST SECOND\n");
+            }
+            Stop::Failed(failure) => tell(errors, b"join", failure.what, &failure.why),
+            Stop::Refused { name, lines, why } => refused(errors, name, lines, why),
+        }
     }
-    let _ = errors.write_all(b": 24: a time that falls\n");
 }

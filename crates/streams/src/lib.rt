@@ -2,12 +2,14 @@
 // say what is read or written.
 #![tactic(auto)]
 
+mod calling;
 mod opening;
 mod reading;
 mod telling;
 mod writing;
 
+pub use calling::{MOST, word};
 pub use opening::open;
 pub use reading::{More, read_more};
-pub use telling::tell;
+pub use telling::{Failure, tell};
 pub use writing::send;

@@ -1,5 +1,5 @@
 use Rattle.std.proofs.Common.{refl}
 use Rattle.streams.proofs.writing.send.Goals as goal
 
-pub returns : goal.returns
-returns g c = record { none = λ _. refl }
+pub returns-then-is_empty : goal.returns-then-is_empty
+returns-then-is_empty g c = record { none = λ _. refl }

@@ -1,8 +1,6 @@
-use Rattle.std.proofs.Common.{◌-◌, ◌≤◌}
+use Rattle.std.proofs.Common.{◌≡◌, min, length}
 use Rattle.streams.proofs.writing.send.Given as goal
 
-abbrev pub invariant-loop-at : goal.invariant-loop-at
-invariant-loop-at g l = l.at ≤ l.end
-
-abbrev pub decreases-loop-at : goal.decreases-loop-at
-decreases-loop-at g l = l.end - l.at
+-- with no byte to write, the first turn finds none
+abbrev pub invariant-loop : goal.invariant-loop
+invariant-loop g l = min l.size (length l.out) ≡ 0 → (l.counter ≡ 0) × (length l.rest ≡ 0)
