@@ -3,8 +3,7 @@ ghost use Rattle.std.specs.Prelude.{◌/◌, ◌≤◌, ◌≡◌, length, take}
 ghost use Rattle.lanes.specs.Parts.{ready_part, Loads};
 
 use crate::filling::fill;
-use held::{bytes_up, whole};
-use text::least;
+use held::{move_up, whole};
 
 // How many words were put, how many bytes are still held, the last time, and the number of the line that is refused or 0.
 #[derive(Clone, Copy)]
@@ -35,11 +34,11 @@ fn ready(s: &[u8], last: bool, room: usize) -> usize
 pub fn load(time: u32, buf: &mut [u8], held: usize, last: bool, words: &mut [u32]) -> Loaded
     ensures { Loads time buf.old held last words.old words.new buf.new result }
 {
-    let to = least(held, buf.len());
+    let to = held.min(buf.len());
     let end = ready(&buf[0..to], last, buf.len());
     let f = fill(time, &buf[0..end], words);
     let from = f.next;
-    let left = bytes_up(buf, from, to - from);
+    let left = move_up(buf, from, to - from);
     Loaded {
         count: f.count,
         held: left,

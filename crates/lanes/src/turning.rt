@@ -4,9 +4,7 @@ ghost use Rattle.lanes.specs.Parts.{Turns};
 ghost use Rattle.lanes.specs.Steps.{Prints, Leaves, MovesUp};
 
 use crate::printing::print;
-use held::words_up;
 use probes::join;
-use text::least;
 
 // The number of a turn, how many words it leaves of each list, and how many bytes it put.
 #[derive(Clone, Copy)]
@@ -78,11 +76,11 @@ fn move_up(first: &mut [u32], n: usize, second: &mut [u32], m: usize, left: usiz
     if first[n - 9] <= second[m - 9] {
         return Left {
             first: 0,
-            second: words_up(second, m - left, left),
+            second: held::move_up(second, m - left, left),
         };
     }
     Left {
-        first: words_up(first, n - left, left),
+        first: held::move_up(first, n - left, left),
         second: 0,
     }
 }
@@ -100,8 +98,8 @@ pub fn turn(
 ) -> Turned
     ensures { Turns first.old n second.old m third.old out.old first.new second.new third.new out.new result }
 {
-    let a = least(n, first.len());
-    let b = least(m, second.len());
+    let a = n.min(first.len());
+    let b = m.min(second.len());
     if out.len() / 11 < a + b {
         return Turned {
             number: 21,

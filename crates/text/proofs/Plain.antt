@@ -1,14 +1,16 @@
 -- A line of eight fields of one digit each. Assumes nothing.
 use Prim.Native.Nat.{ℕ, zero, suc, ◌+◌, ◌-◌, ◌*◌, ◌%◌, ◌≤◌, ◌<◌}
-use mathlib.Core.Path.{◌≡◌, sym, ◌∙◌}
-use mathlib.Core.Bool.{true}
+use mathlib.Core.Path.{◌≡◌, refl, sym, ◌∙◌}
+use mathlib.Core.Bool.{Bool, true, false}
 use mathlib.Core.List.{List}
 use native.Mathlib.Omega.{arith}
 use native.Mathlib.Nat.{add-zero}
 use native.Mathlib.Numerals.{add-one}
-use borrow.Author.Tests.{eqb-true}
+use borrow.Author.Tests.{eqb-true, eqb-false}
 use lib.Dec.{eqb}
-use lib.ListN.{length, get_or}
+use lib.ListN.{length, get_or, set, length-set}
+use lib.Seq.{ext_get_or}
+use Rattle.std.proofs.lemmas.List.{get_or-set_same, get_or-set_other}
 use Rattle.text.specs.Reading.{is_digit, taken_at}
 use Rattle.text.specs.Parts.{one_digit, tabbed, plain_line, words_to}
 use Rattle.text.proofs.Bools.{and_both, digit_in}
@@ -40,6 +42,26 @@ left_fields s from (suc k) h e =
     at
     (left_short s from (from + 2 * k) k (words_to k s from) (left_fields s from k (omega arith) p.0) _
     (record { within = omega arith; digit = d.digit; spell = d.spell; tab = d.after }))
+
+-- words that are the digits one by one
+words_long : (k : ℕ) (s : List ℕ) (from : ℕ) → length (words_to k s from) ≡ 8
+unfolding words_to
+words_long zero s from = refl
+words_long (suc k) s from = simp length-set (words_long k s from)
+
+words_at : (k : ℕ) (s : List ℕ) (from i : ℕ) → i < k → k ≤ 8 → get_or (words_to k s from) i 0 ≡ get_or s (from + 2 * i) 0 % 16
+unfolding words_to
+words_at zero s from i h l = absurd (omega arith)
+words_at (suc k) s from i h l = by (eqb i k) refl (words_at k s from i)
+  where
+    by : (t : Bool) → eqb i k ≡ t → (i < k → k ≤ 8 → get_or (words_to k s from) i 0 ≡ get_or s (from + 2 * i) 0 % 16)
+        → get_or (set (words_to k s from) k (get_or s (from + 2 * k) 0 % 16)) i 0 ≡ get_or s (from + 2 * i) 0 % 16
+    by true e f = rw (eqb-true i k e) (get_or-set_same (words_to k s from) k _ 0 (omega (arith, words_long k s from)))
+    by false e f = let n = eqb-false i k e in get_or-set_other _ k i _ 0 n ∙ f (omega arith) (omega arith)
+
+pub words_are : (s : List ℕ) (from : ℕ) (w : List ℕ) → length w ≡ 8 → ((i : ℕ) → i < 8 → get_or w i 0 ≡ get_or s (from + 2 * i) 0 % 16)
+    → w ≡ words_to 8 s from
+words_are s from w l h = ext_get_or 0 w (words_to 8 s from) (l ∙ sym (words_long 8 s from)) (λ i k. h i (omega arith) ∙ sym (words_at 8 s from i (omega arith) (omega arith)))
 
 -- the whole line
 pub plain_taken : (s : List ℕ) (from : ℕ) → from + 16 ≤ length s → plain_line s from ≡ true

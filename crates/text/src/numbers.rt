@@ -25,14 +25,7 @@ fn digits(s: &[u8], from: usize) -> Run
     let mut value: u64 = 0;
     for end in from..s.len() {
         let b = s[end];
-        if !b.is_ascii_digit() {
-            return Run {
-                value,
-                end,
-                after: b,
-            };
-        }
-        if 1000000000 <= value {
+        if !b.is_ascii_digit() || 1000000000 <= value {
             return Run {
                 value,
                 end,
@@ -75,18 +68,10 @@ pub(crate) fn short(s: &[u8], from: usize) -> Option<u32>
     requires { from ≤ length s.now }
     ensures { IfSome result (λ v. Short s.now from v) }
 {
-    let tab = from + 1;
-    if s.len() <= tab {
-        return None;
+    match &s[from..] {
+        [b, 9, ..] if b.is_ascii_digit() => Some((b - 48) as u32),
+        _ => None,
     }
-    if s[tab] != 9 {
-        return None;
-    }
-    let b = s[from];
-    if !b.is_ascii_digit() {
-        return None;
-    }
-    Some((b - 48) as u32)
 }
 
 // Whether a digit stands at a place, and after it the byte that ends its field. No branch, so that many are tested at once.

@@ -78,11 +78,7 @@ fn plain_words(s: &[u8], from: usize) -> [u32; 8]
     requires { from + 16 ≤ length s.now }
     ensures { result ≡ words_to 8 s.now from }
 {
-    let mut words = [0u32; 8];
-    for k in 0..8 {
-        words[k] = (s[from + 2 * k] % 16) as u32;
-    }
-    words
+    std::array::from_fn(|k| (s[from + 2 * k] % 16) as u32)
 }
 
 // The line at a place, field by field. A line of up to eight numbers has at most 87 bytes, so its length needs no test.
@@ -118,14 +114,12 @@ pub fn take(s: &[u8], from: usize) -> Taken
     if s.len() < from {
         return skip(s, from);
     }
-    if from + 16 <= s.len() {
-        if is_plain(s, from) {
-            return Taken {
-                count: 8,
-                words: plain_words(s, from),
-                next: from + 16,
-            };
-        }
+    if from + 16 <= s.len() && is_plain(s, from) {
+        return Taken {
+            count: 8,
+            words: plain_words(s, from),
+            next: from + 16,
+        };
     }
     take_fields(s, from)
 }

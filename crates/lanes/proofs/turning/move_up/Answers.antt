@@ -46,7 +46,7 @@ pub returns-then-first-n : goal.returns-then-first-n
 returns-then-first-n c =
     let f = c.args.first.now in
     let s = c.args.second.now in
-    second_moves f c.args.n s c.args.m c.args.left c.requires c.if-left-eq0.false (omega (arith, c.if-first-n.true)) _ _ (c.words_up.ensures.value, c.words_up.ensures.list_after)
+    second_moves f c.args.n s c.args.m c.args.left c.requires c.if-left-eq0.false (omega (arith, c.if-first-n.true)) _ _ (c.move_up.ensures.value, c.move_up.ensures.list_after)
 
 pub overflow_sub-n-2 : goal.overflow_sub-n-2
 overflow_sub-n-2 c =
@@ -58,4 +58,4 @@ pub returns : goal.returns
 returns c =
     let f = c.args.first.now in
     let s = c.args.second.now in
-    first_moves f c.args.n s c.args.m c.args.left c.requires c.if-left-eq0.false (omega (arith, c.if-first-n.false)) _ _ (c.words_up-2.ensures.value, c.words_up-2.ensures.list_after)
+    first_moves f c.args.n s c.args.m c.args.left c.requires c.if-left-eq0.false (omega (arith, c.if-first-n.false)) _ _ (c.move_up-2.ensures.value, c.move_up-2.ensures.list_after)
