@@ -136,7 +136,7 @@ text_either false ms ws a = rw (add-zero a)
 
 text_next : (ms ws : List ℕ) (j a : ℕ) → j < length ms
     → left_text ms ws j a ≡ answer_at (get_or ms j 0) ws a ++ left_text ms ws (j + 1) (a + words_of (get_or ms j 0))
-unfolding answers_text answer_at words_of
+unfolding answers_text
 text_next ms ws j a h = rw (drop-cons ms j 0 h, add-one j) (text_either (eqb (get_or ms j 0) 1) (drop (suc j) ms) ws a)
 
 -- an answer is put
