@@ -58,6 +58,7 @@ pub fn renewed(chosen: bool, n: Count, word: u32, x: Cell) -> Cell
 }
 
 // Where the line has no owner and no valid cell there is a backup, and the node whose cell is x has one.
+#[tactic(auto, unfolding(crate::specs::Nines::copy_refusal, numbers::specs::Rows::from, rules::specs::Refusals::table, rules::specs::Refusals::given))]
 fn copy_refusal(x: Cell, nine: &[Cell; 9]) -> Result<(), Refusal>
     ensures { number_in result ≡ copy_refusal x nine.now }
 {
@@ -75,6 +76,7 @@ fn copy_refusal(x: Cell, nine: &[Cell; 9]) -> Result<(), Refusal>
 }
 
 // Refused where a message of the line bears the next serial, or where no data are left for the node whose cell is x.
+#[tactic(auto, unfolding(crate::specs::Nines::renewal_refusal, crate::specs::Nines::copy_refusal, numbers::specs::Rows::from, rules::specs::Refusals::table, rules::specs::Refusals::given))]
 pub fn renewal_refusal(x: Cell, borne: bool, nine: [Cell; 9]) -> Result<(), Refusal>
     ensures { number_in result ≡ renewal_refusal x borne nine }
 {

@@ -1,7 +1,6 @@
 -- The tags as the library searches them. Assumes nothing.
 use Rattle.std.proofs.Common.{ℕ, ◌≡◌, ◌<◌, length, List, Bool, true, false, not, Option, None, Some, MatchOption, eqb, arith, sym}
 use Rattle.std.specs.List.{AllWithin, HoldsAt, IsAnyAnswer}
-use Rattle.rules.specs.Tools.{all_to}
 use Rattle.rules.proofs.Laws.Bools.{split, clash}
 use Rattle.rules.proofs.Laws.Sums.{all_at, at_all, first_is, first_all}
 use Rattle.numbers.specs.Tags.{slot_in, first_untagged, absent}
