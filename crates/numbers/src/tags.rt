@@ -1,6 +1,6 @@
 // What the slots hold, beside the state, one number for each: so that a search copies no pool.
-ghost use Rattle.std.specs.Prelude.{◌≡◌, ◌≤◌};
-ghost use Rattle.numbers.specs.Tags.{tag_of, Tagged, first_untagged, absent as absentFrom};
+ghost use Rattle.std.specs.Prelude.{◌≡◌, ◌<◌, IfSome};
+ghost use Rattle.numbers.specs.Tags.{tag_of, Tagged, slot_in, first_untagged, absent as absentFrom};
 
 use rules::messages::{Message, MessageKind};
 use rules::numbers::Serial;
@@ -9,53 +9,31 @@ use rules::numbers::Serial;
 pub fn tag(kind: MessageKind, line: u8, q: Serial) -> u32
     ensures { result ≡ tag_of kind line q.0 }
 {
-    let busy = line as u32 * 256 + q.0 as u32 + 1;
     match kind {
         MessageKind::Free => 0,
-        MessageKind::Tokens => busy,
-        MessageKind::OwnershipAck => busy,
-        MessageKind::DeletionAck => busy,
+        MessageKind::Tokens | MessageKind::OwnershipAck | MessageKind::DeletionAck => {
+            line as u32 * 256 + q.0 as u32 + 1
+        }
     }
 }
 
 pub fn tags_of(pool: [Message; 64]) -> [u32; 64]
     ensures { Tagged result pool }
 {
-    let mut tags = [0u32; 64];
-    let mut i: usize = 0;
-    while i < 64 {
-        let m = pool[i];
-        let kind = m.kind;
-        let serial = m.serial;
-        tags[i] = tag(kind, m.line, serial);
-        i += 1;
-    }
-    tags
+    pool.map(|m| tag(m.kind, m.line, m.serial))
 }
 
-// The lowest free slot, or 64.
-pub fn lowest_free(tags: &[u32; 64]) -> usize
-    ensures { (result ≤ 64) × (result ≡ first_untagged tags.now) }
+// The lowest free slot.
+pub fn lowest_free(tags: &[u32; 64]) -> Option<usize>
+    ensures lowest { slot_in result ≡ first_untagged tags.now }
+    ensures within { IfSome result (λ i. i < 64) }
 {
-    let mut i: usize = 0;
-    while i < 64 {
-        if tags[i] == 0 {
-            return i;
-        }
-        i += 1;
-    }
-    64
+    tags.iter().position(|tag| *tag == 0)
 }
 
 // No slot has the tag.
 pub fn absent(tags: &[u32; 64], tag: u32) -> bool
     ensures { result ≡ absentFrom tags.now tag }
 {
-    let mut none = true;
-    let mut i: usize = 0;
-    while i < 64 {
-        none = none & (tags[i] != tag);
-        i += 1;
-    }
-    none
+    !tags.contains(&tag)
 }

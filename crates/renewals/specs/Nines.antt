@@ -2,8 +2,6 @@
 use Rattle.std.specs.Prelude.{ℕ, Bool, false, List, get_or}
 use Rattle.rules.specs.declared.cells.Cell.{Cell}
 use Rattle.rules.specs.declared.events.Event.{Event}
-use Rattle.renewals.specs.declared.nines.Mark.{Mark}
-use Rattle.renewals.specs.declared.nines.Mark.TheVariants.{Owner, Valid, Backup}
 use Rattle.rules.specs.Cells.{zero_cell}
 use Rattle.rules.specs.Fresh.{sizes}
 use Rattle.rules.specs.Refusals.{Seen, table, given}
@@ -12,12 +10,6 @@ use Rattle.numbers.specs.Rows.{sight, from}
 -- the cell at a node
 abbrev pub nth : List Cell → ℕ → Cell
 nth nine n = get_or nine n zero_cell
-
--- the cell has the mark
-abbrev pub marked : Mark → Cell → Bool
-marked Owner c = c.owner
-marked Valid c = c.valid
-marked Backup c = c.backup
 
 -- what is seen of a line: the cell of the node named, whether a message of the line bears the next serial, and its nine cells; the rest stands for what is not looked at
 abbrev pub line_sight : Cell → Bool → List Cell → Seen

@@ -1,86 +1,51 @@
 // The recreation of a line's tokens, over the line's nine cells.
-ghost use Rattle.std.specs.Prelude.{◌≡◌, ◌≤◌};
-ghost use Rattle.rules.specs.Refusals.{next, lowest as lowestOf, copyless as copylessOf, backupless as backuplessOf};
+ghost use Rattle.std.specs.Prelude.{◌≡◌};
+ghost use Rattle.rules.specs.Kinds.{number_in};
+ghost use Rattle.rules.specs.Refusals.{next, copyless as copylessOf, backupless as backuplessOf};
 ghost use Rattle.rules.specs.Effects.{word_for, after_recreation};
-ghost use Rattle.renewals.specs.Nines.{nth, marked, copy_refusal, renewal_refusal};
+ghost use Rattle.renewals.specs.Nines.{nth, copy_refusal, renewal_refusal};
 
 use rules::cells::Cell;
-use rules::choices::either;
 use rules::numbers::{Count, Serial};
+use rules::refusals::Refusal;
 
 // One more, and 0 after 3.
+#[tactic(auto, unfolding(rules::specs::Refusals::next))]
 pub fn next_serial(q: Serial) -> Serial
     ensures { result.0 ≡ next q.0 }
 {
     if q.0 < 3 { Serial(q.0 + 1) } else { Serial(0) }
 }
 
-// A mark that a recreation looks for.
-#[derive(Clone, Copy)]
-enum Mark {
-    Owner,
-    Valid,
-    Backup,
-}
-
-fn has_mark(mark: Mark, c: Cell) -> bool
-    ensures { result ≡ marked mark c }
-{
-    match mark {
-        Mark::Owner => c.owner,
-        Mark::Valid => c.valid,
-        Mark::Backup => c.backup,
-    }
-}
-
-// The lowest-numbered node whose cell has the mark, or 9.
-fn lowest(nine: [Cell; 9], mark: Mark) -> usize
-    ensures { (result ≤ 9) × (result ≡ lowestOf (nth nine) (marked mark)) }
-{
-    let mut node: usize = 0;
-    while node < 9 {
-        let cell = nine[node];
-        if has_mark(mark, cell) {
-            return node;
-        }
-        node += 1;
-    }
-    9
-}
-
 // No owner and no valid cell.
-fn copyless(nine: [Cell; 9]) -> bool
-    ensures { result ≡ copylessOf (nth nine) }
+fn copyless(nine: &[Cell; 9]) -> bool
+    ensures { result ≡ copylessOf (nth nine.now) }
 {
-    if lowest(nine, Mark::Owner) < 9 {
-        return false;
-    }
-    lowest(nine, Mark::Valid) == 9
+    !nine.iter().any(|c| c.owner | c.valid)
 }
 
 // No backup at any node.
-fn backupless(nine: [Cell; 9]) -> bool
-    ensures { result ≡ backuplessOf (nth nine) }
+fn backupless(nine: &[Cell; 9]) -> bool
+    ensures { result ≡ backuplessOf (nth nine.now) }
 {
-    lowest(nine, Mark::Backup) == 9
+    !nine.iter().any(|c| c.backup)
 }
 
 // The word that a recreation takes for the node whose cell is x; of the backups only its own.
 pub fn word_for(x: Cell, nine: [Cell; 9]) -> u32
     ensures { result ≡ word_for x (nth nine) }
 {
-    let owner = lowest(nine, Mark::Owner);
-    if owner < 9 {
-        return nine[owner].word;
+    if let Some(owner) = nine.iter().find(|c| c.owner) {
+        return owner.word;
     }
-    let valid = lowest(nine, Mark::Valid);
-    if valid < 9 {
-        return nine[valid].word;
+    if let Some(valid) = nine.iter().find(|c| c.valid) {
+        return valid.word;
     }
-    either(x.backup, x.saved, 0)
+    if x.backup { x.saved } else { 0 }
 }
 
 // A cell after the recreation: the chosen one has all n tokens and the word.
+#[tactic(auto, unfolding(rules::specs::Effects::after_recreation))]
 pub fn renewed(chosen: bool, n: Count, word: u32, x: Cell) -> Cell
     ensures { result ≡ after_recreation n.0 word chosen x }
 {
@@ -92,24 +57,31 @@ pub fn renewed(chosen: bool, n: Count, word: u32, x: Cell) -> Cell
     }
 }
 
-// Where the line has no owner and no valid cell: 18 if no node has a backup, 23 if one has, but not the node whose cell is x;
-// else 0.
-fn copy_refusal(x: Cell, nine: [Cell; 9]) -> u32
-    ensures { result ≡ copy_refusal x nine }
+// Where the line has no owner and no valid cell there is a backup, and the node whose cell is x has one.
+#[tactic(auto, unfolding(crate::specs::Nines::copy_refusal, numbers::specs::Rows::from, rules::specs::Refusals::table, rules::specs::Refusals::given))]
+fn copy_refusal(x: Cell, nine: &[Cell; 9]) -> Result<(), Refusal>
+    ensures { number_in result ≡ copy_refusal x nine.now }
 {
-    if copyless(nine) {
-        if backupless(nine) {
-            return 18;
-        }
-        return either(x.backup, 0, 23);
+    if !copyless(nine) {
+        return Ok(());
     }
-    0
+    if backupless(nine) {
+        return Err(Refusal::NothingLeft);
+    }
+    if x.backup {
+        Ok(())
+    } else {
+        Err(Refusal::BackupElsewhere)
+    }
 }
 
-// 17 where a message of the line bears the next serial; else 18, 23 or 0.
-pub fn renewal_refusal(x: Cell, borne: bool, nine: [Cell; 9]) -> u32
-    ensures { result ≡ renewal_refusal x borne nine }
+// Refused where a message of the line bears the next serial, or where no data are left for the node whose cell is x.
+#[tactic(auto, unfolding(crate::specs::Nines::renewal_refusal, crate::specs::Nines::copy_refusal, numbers::specs::Rows::from, rules::specs::Refusals::table, rules::specs::Refusals::given))]
+pub fn renewal_refusal(x: Cell, borne: bool, nine: [Cell; 9]) -> Result<(), Refusal>
+    ensures { number_in result ≡ renewal_refusal x borne nine }
 {
-    let lack = copy_refusal(x, nine);
-    either(borne, 17, lack)
+    if borne {
+        return Err(Refusal::NextSerialBorne);
+    }
+    copy_refusal(x, &nine)
 }

@@ -1,14 +1,12 @@
-use borrow.Author.Tests.{ne_eqb, eq-eqb}
-use native.Mathlib.Omega.{arith}
-use Rattle.rules.specs.Refusals.{copyless}
+use Rattle.std.proofs.Common.{◌≡◌, ◌||◌, true, false, rules}
+use Rattle.std.proofs.lemmas.Iterator.{YieldsList-from_slice, cases_from_any}
+use borrow.Author.Tests.{tests}
+use Rattle.renewals.proofs.Words.{no_copy}
 use Rattle.renewals.proofs.nines.copyless.Goals as goal
 
-pub returns-then-lowest-lt9 : goal.returns-then-lowest-lt9
-unfolding copyless
-returns-then-lowest-lt9 c = simp (← c.lowest.ensures.1, ne_eqb c.lowest.result 9 (λ z. omega (arith, c.if-lowest-lt9.true)))
-
 pub returns : goal.returns
-unfolding copyless
 returns c =
-    let o = c.lowest in
-    simp (← o.ensures.1, eq-eqb o.result 9 (omega (arith, o.ensures.0, c.if-lowest-lt9.false)), ← c.lowest-2.ensures.1)
+    no_copy _ c.told-nine _
+    (cases_from_any _ _ _ (λ c. c.owner || c.valid ≡ true) (λ c. c.owner || c.valid ≡ false) c.any.ensures.ran (YieldsList-from_slice c.args.nine.now cc)
+    (λ x q k. search (rules, tests))
+    (λ x q k. search (rules, tests)))
