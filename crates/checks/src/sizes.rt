@@ -7,6 +7,7 @@ use rules::numbers::Serial;
 use rules::states::Sizes;
 
 // The sizes are in range.
+#[tactic(auto, unfolding(rules::specs::WellFormed::sizes_fine, rules::specs::Tools::every))]
 pub fn sizes_fine(caches: u32, lines: u32, tokens: u32) -> bool
     ensures { result ≡ sizes_fine (sizesOf caches lines tokens) }
 {
@@ -14,6 +15,7 @@ pub fn sizes_fine(caches: u32, lines: u32, tokens: u32) -> bool
 }
 
 // 0 to 3, and 0 beyond the lines.
+#[tactic(auto, unfolding(rules::specs::WellFormed::serial_fine))]
 pub fn serial_fine(z: Sizes, line: u8, q: Serial) -> bool
     ensures { result ≡ serial_fine z line q.0 }
 {
