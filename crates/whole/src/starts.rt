@@ -4,73 +4,73 @@ ghost use Rattle.rules.specs.Fresh.{memory_cell, fresh_cells, fresh as fresh_of,
 
 use checks::sizes_fine;
 use rules::cells::Cell;
-use rules::choices::either;
 use rules::empties::{empty_cell, free_message};
 use rules::events::{Answer, Stepped};
 use rules::numbers::{Count, Serial};
+use rules::refusals::Refusal;
 use rules::states::{Sizes, State};
 
 // The memory's cell: all tokens, owner and valid.
-fn memory_cell(n: u8) -> Cell
-    ensures { result ≡ memory_cell n }
+fn memory_cell(n: Count) -> Cell
+    ensures { result ≡ memory_cell n.0 }
 {
-    let empty = empty_cell();
-    empty.recreate(Count(n), 0)
+    empty_cell().recreate(n, 0)
 }
 
 // 144 times the empty cell, then the memory's cell of each line.
-fn fresh_cells(caches: u8, lines: u8, n: u8) -> [Cell; 144]
-    requires { (caches ≤ 8) × (lines ≤ 16) }
-    ensures { result ≡ fresh_cells lines caches n }
+fn fresh_cells(z: Sizes) -> [Cell; 144]
+    requires { (z.caches ≤ 8) × (z.lines ≤ 16) }
+    ensures { result ≡ fresh_cells z.lines z.caches z.total.0 }
 {
-    let empty = empty_cell();
-    let memory = memory_cell(n);
-    let mut cells = [empty; 144];
-    let mut line = 0;
-    while line < lines {
-        let at = line as usize * 9 + caches as usize;
-        cells[at] = memory;
-        line += 1;
+    let memory = memory_cell(z.total);
+    let mut cells = [empty_cell(); 144];
+    for line in 0..z.lines {
+        cells[line as usize * 9 + z.caches as usize] = memory;
     }
     cells
 }
 
-fn fresh(caches: u8, lines: u8, n: u8) -> State
-    requires { (caches ≤ 8) × (lines ≤ 16) }
-    ensures { result ≡ fresh_of caches lines n }
+#[tactic(auto, unfolding(rules::specs::Fresh::fresh))]
+fn fresh(z: Sizes) -> State
+    requires { (z.caches ≤ 8) × (z.lines ≤ 16) }
+    ensures { result ≡ fresh_of z.caches z.lines z.total.0 }
 {
-    let zero = Serial(0);
-    let serials = [zero; 16];
-    let cells = fresh_cells(caches, lines, n);
-    let free = free_message();
-    let pool = [free; 64];
     State {
-        sizes: Sizes {
-            caches,
-            lines,
-            total: Count(n),
-        },
-        serials,
-        cells,
-        pool,
+        sizes: z,
+        serials: [Serial(0); 16],
+        cells: fresh_cells(z),
+        pool: [free_message(); 64],
     }
 }
 
-// The fresh state of the sizes; 19 and the state that is all zero where one is out of range.
+// The fresh state of the sizes; refused, with the state that is all zero, where one is out of range.
+#[tactic(auto, using(rules::proofs::Keeps::Well::sizes_ok), unfolding(rules::specs::Fresh::start_of))]
 pub fn start(caches: u32, lines: u32, tokens: u32) -> Stepped
     ensures { result ≡ start_of caches lines tokens }
 {
-    let fine = sizes_fine(caches, lines, tokens);
-    let c = either(fine, caches, 0);
-    let l = either(fine, lines, 0);
-    let n = either(fine, tokens, 0);
-    let state = fresh(c as u8, l as u8, n as u8);
-    Stepped {
-        state,
-        answer: Answer {
-            number: either(fine, 0, 19),
-            word: 0,
-            slot: 64,
-        },
+    if sizes_fine(caches, lines, tokens) {
+        let z = Sizes {
+            caches: caches as u8,
+            lines: lines as u8,
+            total: Count(tokens as u8),
+        };
+        Stepped {
+            state: fresh(z),
+            answer: Answer {
+                number: 0,
+                word: 0,
+                slot: 64,
+            },
+        }
+    } else {
+        let none = Sizes {
+            caches: 0,
+            lines: 0,
+            total: Count(0),
+        };
+        Stepped {
+            state: fresh(none),
+            answer: Answer::refused(Refusal::WrongSize),
+        }
     }
 }

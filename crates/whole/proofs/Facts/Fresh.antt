@@ -1,17 +1,16 @@
 -- Laws of a start. Assumes nothing.
-use Prim.Native.Nat.{ℕ, ◌+◌, ◌*◌, ◌≤◌}
-use mathlib.Core.Bool.{Bool, cond as pick}
-use mathlib.Core.Path.{◌≡◌, refl, sym, ap, ◌∙◌}
+use Prim.Native.Nat.{ℕ, ◌+◌, ◌*◌}
+use mathlib.Core.Path.{◌≡◌, refl, ap}
 use mathlib.Core.List.{List}
 use native.Mathlib.Numerals.{add-one}
 use lib.ListN.{set, replicate}
+use mathlib.Core.Bool.{false}
 use Rattle.whole.specs.Types.{Cell, State, Stepped}
+use Rattle.rules.specs.declared.events.Answer.{Answer}
+use Rattle.rules.specs.Effects.{answer}
+use Rattle.rules.specs.WellFormed.{sizes_fine}
 use Rattle.rules.specs.Cells.{zero_cell}
 use Rattle.rules.specs.Fresh.{memory_cell, fresh_cells, sizes, fresh, zero_state, start_of}
-use Rattle.rules.specs.WellFormed.{sizes_fine}
-use Rattle.rules.proofs.Laws.Bools.{split}
-use Rattle.rules.proofs.Keeps.Well.{sizes_ok}
-use native.Mathlib.Omega.{arith}
 
 -- the cells before the first line, and after one line more
 pub fresh_none : {x : Cell} (c n : ℕ) → x ≡ zero_cell → replicate 144 x ≡ fresh_cells 0 c n
@@ -26,14 +25,8 @@ pub fresh_zero : fresh 0 0 0 ≡ zero_state
 unfolding fresh fresh_cells zero_state
 fresh_zero = refl
 
--- a start of the sizes, or of zeros where one is out of range
-module _ (c l n : ℕ) {fine : Bool} (hf : fine ≡ sizes_fine (sizes c l n)) {c' l' n' : ℕ} (hc : c' ≡ pick fine c 0) (hl : l' ≡ pick fine l 0) (hn : n' ≡ pick fine n 0) where
-  pub start_sizes : (c' ≤ 8) × (l' ≤ 16) × (n' ≤ 64)
-  start_sizes =
-      split fine (λ y. let z = sizes_ok (sym hf ∙ y) in rw (hc, hl, hn, y) (omega arith, omega arith, omega arith))
-      (λ f. rw (hc, hl, hn, f) (omega arith, omega arith, omega arith))
-
-  pub start_is : {s : State} {number : ℕ} → s ≡ fresh c' l' n' → number ≡ pick fine 0 19
-      → ◌≡◌ {A = Stepped} (record { state = s; answer = record { number = number; word = 0; slot = 64 } }) (start_of c l n)
-  unfolding start_of
-  start_is hs hk = split fine (λ y. rw (hs, hk, hc, hl, hn, y, sym hf ∙ y)) (λ f. rw (hs, hk, hc, hl, hn, f, sym hf ∙ f, fresh_zero))
+-- a start that is refused
+pub start_refused : (c l n : ℕ) → sizes_fine (sizes c l n) ≡ false → {s : State} {a : Answer} → s ≡ fresh 0 0 0 → a ≡ answer 19 0 64
+    → ◌≡◌ {A = Stepped} (record { state = s; answer = a }) (start_of c l n)
+unfolding start_of
+start_refused c l n f hs ha = rw (hs, ha, f, fresh_zero)

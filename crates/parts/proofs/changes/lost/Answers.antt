@@ -1,7 +1,6 @@
-use mathlib.Core.Path.{refl}
-use Rattle.parts.specs.Changes.{lost, fits}
+use Rattle.parts.specs.Changes.{lost}
 use Rattle.parts.proofs.changes.lost.Goals as goal
 
 pub returns : goal.returns
-unfolding lost fits
-returns c = refl
+unfolding lost
+returns c = rw (c.ne.ensures, c.fits.ensures)

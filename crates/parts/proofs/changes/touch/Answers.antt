@@ -3,4 +3,4 @@ use Rattle.parts.proofs.changes.touch.Goals as goal
 
 pub returns : goal.returns
 unfolding touched_cell
-returns c = rw (c.wish.ensures, c.write-y.ensures, c.either-word.ensures, c.wanted-want.ensures)
+returns c = rw (c.wish.ensures, c.write.ensures, c.either-word.ensures, c.wanted.ensures)

@@ -3,4 +3,4 @@ use Rattle.whole.proofs.tallies.bears.Goals as goal
 
 pub returns : goal.returns
 unfolding bears
-returns c = rw c.is_free.ensures
+returns c = rw (c.is_free.ensures, c.eq.ensures)

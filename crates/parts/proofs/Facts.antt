@@ -1,2 +1,0 @@
--- Facts that the proofs of functions cite.
-pub mod Changes
