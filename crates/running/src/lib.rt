@@ -2,6 +2,7 @@
 #![tactic(auto)]
 
 mod runs;
+mod steps;
 mod turns;
 
 pub use runs::run;

@@ -1,6 +1,6 @@
 -- The number of an event over a well formed state, from the parts that it names. Assumes nothing.
 use Prim.Native.Nat.{ℕ, ◌≤◌, ◌<◌}
-use mathlib.Core.Bool.{true, false, ◌||◌, cond as pick}
+use mathlib.Core.Bool.{Bool, true, false, ◌||◌, cond as pick}
 use mathlib.Core.Path.{◌≡◌, refl, ap, ◌∙◌}
 use mathlib.Core.Logic.{◌≢◌}
 use mathlib.Core.List.{List, [], ◌∷◌}
@@ -39,10 +39,12 @@ module _ (s : State) (e : Event) (w : well_formed s ≡ true) where
       split (delivering e.kind) (λ t. ap (λ k. given (table_of s e k)) (eqb-true e.kind 3 t) ∙ rw w)
       (λ f. ap (λ k. given (table_of s e k)) (eqb-true e.kind 4 (rw f at h)) ∙ rw w)
 
-  -- a send: by its sender's cell and the lowest free slot
-  pub send_number : sending e.kind ≡ true → refusal s e ≡ send_refusal s.sizes e (cell_of s e) (lowest_free s)
+  -- a send: by its sender's cell, and whether no slot is free
+  pub send_number : {full : Bool} → full ≡ eqb (lowest_free s) 64 → sending e.kind ≡ true → refusal s e ≡ send_refusal s.sizes e (cell_of s e) full
   unfolding refusal send_refusal table given
-  send_number h = ap (λ k. given (table_of s e k)) (eqb-true e.kind 2 h) ∙ rw w
+  send_number {full} g h =
+      ap (λ k. given (table_of s e k)) (eqb-true e.kind 2 h)
+      ∙ split full (λ y. rw (w, ← g, y)) (λ n. rw (w, ← g, n))
 
   module _ (plain : slotted e.kind || sending e.kind ≡ false) where
     -- the numbers before 17: by the cell

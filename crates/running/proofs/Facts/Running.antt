@@ -7,19 +7,14 @@ use native.Mathlib.Omega.{arith}
 use native.Mathlib.Numerals.{add-one, add-two}
 use lib.ListN.{length, take, drop, replicate, length-set}
 use lib.Seq.{sets, drop-drop, get_or-take}
-use Rattle.running.specs.Types.{Sizes, State, Event, Answer}
-use Rattle.rules.specs.WellFormed.{well_formed}
+use Rattle.running.specs.Types.{State, Event, Answer, Stepped}
 use Rattle.rules.specs.Effects.{answer, step_of}
 use Rattle.rules.specs.Runs.{run_of, answers_of, words_of, event_of, events_to}
-use Rattle.numbers.specs.Tags.{Tagged}
 use Rattle.running.specs.Words.{answer_set}
-use Rattle.rules.proofs.Laws.Views.{Sized}
-use Rattle.rules.proofs.Keeps.Shapes.{step_keeps_sized, step_keeps_sizes}
-use Rattle.rules.proofs.Keeps.Steps.{step_keeps_well_formed}
-use Rattle.running.proofs.Facts.Turns.{StepTaken}
+use Rattle.running.specs.Steps.{stepped}
 
 -- an event read from the part of the words that holds it
-pub event_part : (ws : List ℕ) (k : ℕ) → k ≡ 8 → event_of (take k ws) ≡ event_of ws
+event_part : (ws : List ℕ) (k : ℕ) → k ≡ 8 → event_of (take k ws) ≡ event_of ws
 event_part ws k h =
     let h0 : 0 < k = omega arith in
     let h1 : 1 < k = omega arith in
@@ -56,46 +51,35 @@ sets_more o i a ws =
     rw (p, add-one (i * 3), add-two (i * 3))
 
 -- where the loop is
-pub record Running (n : ℕ) (ws o₀ : List ℕ) (s : State) (z : Sizes) (o : List ℕ) (t : State) (tags : List ℕ) (i : ℕ) : Type 0 where
-  pub within : i ≤ n
-  pub long : length o ≡ length o₀
-  pub sized : Sized t
-  pub well : well_formed t ≡ true
-  pub sizes : z ≡ t.sizes
-  pub tagged : Tagged tags t.pool
-  pub slots : length tags ≡ 64
+pub record Running (n : ℕ) (ws o₀ : List ℕ) (s : State) (o : List ℕ) (t : State) (i : ℕ) : Type 0 where
   pub states : run_of t (rest n ws i) ≡ run_of s (events_to n ws)
   pub answers : sets o (i * 3) (words_of (answers_of t (rest n ws i))) ≡ sets o₀ 0 (words_of (answers_of s (events_to n ws)))
 
-pub begins : (n : ℕ) (ws o : List ℕ) (s : State) {tags : List ℕ} → Sized s → well_formed s ≡ true → Tagged tags s.pool → length tags ≡ 64 → Running n ws o s s.sizes o s tags 0
-begins n ws o s a b c d =
-    record { within = omega arith; long = refl; sized = a; well = b; sizes = refl; tagged = c; slots = d; states = ap (run_of s) (rest_all n ws); answers = ap (λ es. sets o 0 (words_of (answers_of s es))) (rest_all n ws) }
+pub begins : (n : ℕ) (ws o : List ℕ) {s t : State} → t ≡ s → Running n ws o s o t 0
+begins n ws o {s} {t} h =
+    record { states = rw (h, rest_all n ws); answers = rw (h, rest_all n ws) }
 
 -- a turn
-pub goes_on : {n : ℕ} {ws o₀ : List ℕ} {s : State} {z : Sizes} {o : List ℕ} {t : State} {tags : List ℕ} {i : ℕ} → Running n ws o₀ s z o t tags i → i < n
-    → {e : Event} → e ≡ event_of (drop (i * 8) ws) → {u : State} {a : Answer} {tags' : List ℕ} → StepTaken t e u a tags'
-    → {o' : List ℕ} → o' ≡ answer_set o (i * 3) a → Running n ws o₀ s z o' u tags' (i + 1)
+pub goes_on : {n : ℕ} {ws o₀ : List ℕ} {s : State} {o : List ℕ} {t : State} {i : ℕ} → Running n ws o₀ s o t i → i < n
+    → {e : Event} → e ≡ event_of (take (i * 8 + 8 - i * 8) (drop (i * 8) ws)) → {u : State} {a : Answer} → step_of t e ≡ stepped u a
+    → {o' : List ℕ} → o' ≡ answer_set o (i * 3) a → Running n ws o₀ s o' u (i + 1)
 unfolding run_of answers_of words_of
-goes_on {n} {ws} {o₀} {s} {z} {o} {t} {tags} {i} r l {e} he {u} {a} {tags'} d {o'} ho =
+goes_on {n} {ws} {o₀} {s} {o} {t} {i} r l {e} he {u} {a} d {o'} ho =
+    let it : e ≡ event_of (drop (i * 8) ws) = he ∙ event_part (drop (i * 8) ws) (i * 8 + 8 - i * 8) (omega arith) in
+    let state : u ≡ (step_of t (event_of (drop (i * 8) ws))).state = ap (λ (r : Stepped). r.state) (sym d ∙ ap (step_of t) it) in
+    let answer : a ≡ (step_of t (event_of (drop (i * 8) ws))).answer = ap (λ (r : Stepped). r.answer) (sym d ∙ ap (step_of t) it) in
     record {
-      within = omega arith;
-      long = rw ho (simp length-set r.long);
-      sized = rw d.state (step_keeps_sized t r.sized e);
-      well = rw d.state (step_keeps_well_formed t r.sized r.well e);
-      sizes = rw d.state (r.sizes ∙ sym (step_keeps_sizes t e));
-      tagged = d.tagged;
-      slots = d.slots;
-      states = rw (d.state, he) (sym (ap (run_of t) (rest_more n ws i l)) ∙ r.states);
+      states = rw state (sym (ap (run_of t) (rest_more n ws i l)) ∙ r.states);
       answers =
-          rw (ho, d.state, d.answer, he)
+          rw (ho, state, answer)
           (sets_more o i (step_of t (event_of (drop (i * 8) ws))).answer (words_of (answers_of (step_of t (event_of (drop (i * 8) ws))).state (rest n ws (i + 1)))) ∙ sym (ap (λ es. sets o (i * 3) (words_of (answers_of t es))) (rest_more n ws i l)) ∙ r.answers);
     }
 
 -- the end
-pub ends : {n : ℕ} {ws o₀ : List ℕ} {s : State} {z : Sizes} {o : List ℕ} {t : State} {tags : List ℕ} {i : ℕ} → Running n ws o₀ s z o t tags i → i ≡ n
+pub ends : {n : ℕ} {ws o₀ : List ℕ} {s : State} {o : List ℕ} {t : State} {i : ℕ} → Running n ws o₀ s o t i → i ≡ n
     → (t ≡ run_of s (events_to n ws)) × (o ≡ sets o₀ 0 (words_of (answers_of s (events_to n ws))))
 unfolding run_of answers_of words_of
-ends {n} {ws} {o₀} {s} {z} {o} {t} {tags} {i} r h = (rw (rest_none n ws i h) at r.states, rw (rest_none n ws i h) at r.answers)
+ends {n} {ws} {o₀} {s} {o} {t} {i} r h = (rw (rest_none n ws i h) at r.states, rw (rest_none n ws i h) at r.answers)
 
 -- the loop that refuses every event
 abbrev pub refusals : ℕ → List ℕ

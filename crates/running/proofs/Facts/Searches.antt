@@ -26,11 +26,6 @@ unfolding first_to
 first_same zero h = refl
 first_same (suc k) {p} {q} h = ap₂ (λ b n. pick b 0 (suc n)) (h 0 (omega arith)) (first_same k (λ i l. h (suc i) (omega arith)))
 
-pub fill_same : {A : Type 0} (k at : ℕ) {f g : ℕ → A} (l : List A) → ((i : ℕ) → i < k → f i ≡ g i) → fill_to k at f l ≡ fill_to k at g l
-unfolding fill_to
-fill_same zero at l h = refl
-fill_same (suc k) at l h = ap₂ (λ cs x. set cs (at + k) x) (fill_same k at l (λ i b. h i (omega arith))) (h k (omega arith))
-
 -- a tag tells of a free slot
 tag_free : (k : MessageKind) (line q : ℕ) → eqb (tag_of k line q) 0 ≡ is_free k
 tag_free Free line q = refl
@@ -89,10 +84,10 @@ module _ {tags : List ℕ} (t : State) (tagged : Tagged tags t.pool) where
       (ap (λ n. eqb n (tag_of Tokens line q)) (tagged.each i l)
       ∙ tag_bears (slot_at t i).kind (slot_at t i).line (slot_at t i).serial.0 line q (λ f. let ad = well_address t w i l f in omega arith) small))
 
-pub slot_near : (tags : List ℕ) (e : Event) {n : ℕ} → n ≡ slot_refusal tags e → n ≡ 0 → e.amount < 64
+pub slot_near : (tags : List ℕ) (e : Event) → 0 ≡ slot_refusal tags e → e.amount < 64
 unfolding slot_refusal table given
-slot_near tags e h g =
-    split (ltb 63 e.amount) (λ y. absurd (let z : 0 ≡ 6 = sym g ∙ (rw y at h) in omega arith)) (λ f. omega (arith, ltb-false 63 e.amount f))
+slot_near tags e h =
+    split (ltb 63 e.amount) (λ y. absurd (let z : 0 ≡ 6 = rw y at h in omega arith)) (λ f. omega (arith, ltb-false 63 e.amount f))
 
 -- two views of a line's nine cells that agree
 module _ {f g : ℕ → Cell} (same : (n : ℕ) → n < 9 → f n ≡ g n) where
@@ -111,11 +106,8 @@ module _ {f g : ℕ → Cell} (same : (n : ℕ) → n < 9 → f n ≡ g n) where
   found : (o : ℕ) (pr : Cell → ℕ) {x y : ℕ} → x ≡ y → pick (ltb o 9) (pr (f o)) x ≡ pick (ltb o 9) (pr (g o)) y
   found o pr h = split (ltb o 9) (λ t. rw t (ap pr (same o (ltb-true o 9 t)))) (λ n. rw n h)
 
-  pub word_same : (node : ℕ) → node < 9 → word_for (f node) f ≡ word_for (g node) g
+  pub word_same : (x : Cell) → word_for x f ≡ word_for x g
   unfolding word_for
-  word_same node h =
+  word_same x =
       rw (lowest_same (λ c. c.owner), lowest_same (λ c. c.valid))
-      (found (lowest g (λ c. c.owner)) (λ c. c.word) (found (lowest g (λ c. c.valid)) (λ c. c.word) (ap (λ (c : Cell). pick c.backup c.saved 0) (same node h))))
-
-  pub after_same : (n node : ℕ) → node < 9 → (j : ℕ) → j < 9 → recreated_line n node f j ≡ recreated_line n node g j
-  after_same n node h j l = rw (word_same node h, same j l)
+      (found (lowest g (λ c. c.owner)) (λ c. c.word) (found (lowest g (λ c. c.valid)) (λ c. c.word) refl))

@@ -2,14 +2,15 @@
 use Prim.Native.Nat.{ℕ, ◌<◌}
 use mathlib.Core.Bool.{Bool, true, false, cond as pick}
 use mathlib.Core.Path.{◌≡◌, refl, sym, ap, ◌∙◌}
-use mathlib.Core.Logic.{◌≢◌}
 use mathlib.Core.List.{List}
 use native.Mathlib.Omega.{arith}
 use lib.Dec.{eqb}
 use lib.ListN.{length, get_or, set, length-set}
 use borrow.Author.Tests.{eqb-true, lt-ltb}
+use Rattle.rules.specs.declared.refusals.Refusal.{Refusal}
 use Rattle.running.specs.Types.{Cell, MessageKind, Free, Tokens, OwnershipAck, DeletionAck, Message, Sizes, State, Event, Answer, Arrival, Stepped}
 use Rattle.rules.specs.Cells.{zero_cell}
+use Rattle.rules.specs.Kinds.{number_of}
 use Rattle.rules.specs.States.{free_message, cell_at, slot_at, serial_at, with_cell, with_slot}
 use Rattle.rules.specs.WellFormed.{well_formed}
 use Rattle.rules.specs.Refusals.{refusal, delivering, slotted, free_at}
@@ -18,14 +19,15 @@ use Rattle.parts.specs.Changes.{fits, lost, arrive_of}
 use Rattle.numbers.specs.Places.{row_of, place_of}
 use Rattle.numbers.specs.Rows.{slot_refusal}
 use Rattle.numbers.specs.Tags.{tag_of, slot_tag, Tagged}
+use Rattle.running.specs.Steps.{stepped}
 use Rattle.rules.proofs.Laws.Bools.{split}
-use Rattle.rules.proofs.Laws.Views.{Sized, same_cell}
+use Rattle.rules.proofs.Laws.Views.{same_cell}
 use Rattle.rules.proofs.Keeps.Numbers.{step_effect}
 use Rattle.rules.proofs.Keeps.Well.{well_sizes, well_address, well_fits}
 use Rattle.running.proofs.Facts.Numbers.{slot_number}
 use Rattle.running.proofs.Facts.Places.{row_is, place_is}
 use Rattle.running.proofs.Facts.Searches.{slot_refusal_lem, slot_near, slot_busy}
-use Rattle.running.proofs.Facts.Turns.{StepTaken, turn_of, tag_set, refused_turn}
+use Rattle.running.proofs.Facts.Turns.{Held, Taken, taken, tag_set, refused}
 
 -- a reply has the tag of its kind
 reply_tag : (k : MessageKind) (q : ℕ) (m : Message) → tag_of k m.line q ≡ slot_tag (reply_of k q m)
@@ -53,62 +55,60 @@ emptied_is : (s : State) (i q : ℕ) (m : Message) → emptied s i ≡ leaves s 
 unfolding reply_of
 emptied_is s i q m = ap (λ s. emptied s i) (sym (same_cell s m.line m.destination))
 
-module _ (t : State) (sized : Sized t) (w : well_formed t ≡ true) (e : Event) (tags : List ℕ) (tagged : Tagged tags t.pool) (slots : length tags ≡ 64)
-    (slot : slotted e.kind ≡ true) {number : ℕ} (hm : number ≡ slot_refusal tags e) where
-  number_is : refusal t e ≡ number
-  number_is = slot_number t e w slot ∙ sym (hm ∙ slot_refusal_lem t tagged e)
+module _ (t : State) (e : Event) (slot : slotted e.kind ≡ true) {tags : List ℕ} (w : well_formed t ≡ true) (tagged : Tagged tags t.pool) where
+  number_is : refusal t e ≡ slot_refusal tags e
+  number_is = slot_number t e w slot ∙ sym (slot_refusal_lem t tagged e)
 
-  pub slot_refused : number ≢ 0 → {a : Answer} → a ≡ answer number 0 64 → StepTaken t e t a tags
-  slot_refused d g = refused_turn t e tagged slots number_is d g
+  pub slot_refused : (why : Refusal) → number_of why ≡ slot_refusal tags e → step_of t e ≡ stepped t (answer (number_of why) 0 64)
+  slot_refused why g = refused t e why (number_is ∙ sym g)
 
-  module _ (accepted : number ≡ 0) where
-    near : e.amount < 64
-    near = slot_near tags e hm accepted
+module _ (t : State) (e : Event) (slot : slotted e.kind ≡ true) {tags : List ℕ} (h : Held t tags) (accepted : 0 ≡ slot_refusal tags e) where
+  near : e.amount < 64
+  near = slot_near tags e accepted
 
-    busy : free_at t e.amount ≡ false
-    busy = slot_busy t tagged e (sym hm ∙ accepted)
+  busy : free_at t e.amount ≡ false
+  busy = slot_busy t h.tagged e (sym accepted)
 
-    -- the message, the serial of its line, and what is left of it
-    abbrev it : Message
-    it = slot_at t e.amount
+  -- the message, the serial of its line, and what is left of it
+  abbrev it : Message
+  it = slot_at t e.amount
 
-    abbrev current : ℕ
-    current = serial_at t it.line
+  abbrev current : ℕ
+  current = serial_at t it.line
 
-    fit : fits (target t it) it ≡ true
-    unfolding fits
-    fit = lt-ltb _ 256 (well_fits t w e.amount near busy)
+  fit : fits (target t it) it ≡ true
+  unfolding fits
+  fit = lt-ltb _ 256 (well_fits t h.well e.amount near busy)
 
-    -- the step is what the change leaves
-    slot_step : step_of t e ≡ leaves t e.amount current it (arrive_of t.sizes.total.0 current e e.kind (target t it) it)
-    unfolding effect deliver_of arrive_of
-    slot_step =
-        let to : Arrival → Stepped = λ a. leaves t e.amount current it a in
-        step_effect t e (number_is ∙ accepted)
-        ∙ split (delivering e.kind)
-        (λ y.
-        let k = eqb-true e.kind 3 y in
-        rw k
-        (left_along to (eqb it.serial.0 current) refl (emptied_is t e.amount current it)
-        ∙ ap to (sym (arrive_is t.sizes.total.0 current e (target t it) it fit))))
-        (λ n.
-        let k = eqb-true e.kind 4 (rw n at slot) in
-        rw k (emptied_is t e.amount current it ∙ ap to (sym (drop_is t.sizes.total.0 current e (target t it) it))))
+  -- the step is what the change leaves
+  slot_step : step_of t e ≡ leaves t e.amount current it (arrive_of t.sizes.total.0 current e e.kind (target t it) it)
+  unfolding effect deliver_of arrive_of
+  slot_step =
+      let to : Arrival → Stepped = λ a. leaves t e.amount current it a in
+      step_effect t e (number_is t e slot h.well h.tagged ∙ sym accepted)
+      ∙ split (delivering e.kind)
+      (λ y.
+      let k = eqb-true e.kind 3 y in
+      rw k
+      (left_along to (eqb it.serial.0 current) refl (emptied_is t e.amount current it)
+      ∙ ap to (sym (arrive_is t.sizes.total.0 current e (target t it) it fit))))
+      (λ n.
+      let k = eqb-true e.kind 4 (rw n at slot) in
+      rw k (emptied_is t e.amount current it ∙ ap to (sym (drop_is t.sizes.total.0 current e (target t it) it))))
 
-    pub slot_turn : {k r : ℕ} → k ≡ place_of (get_or t.pool e.amount free_message).line (get_or t.pool e.amount free_message).destination
-        → r ≡ row_of (get_or t.pool e.amount free_message).line → {z : Sizes} → z ≡ t.sizes → {c : Arrival} {p : Message} {tag : ℕ}
-        → c ≡ arrive_of z.total.0 (get_or t.serials r (record { 0 = 0 })).0 e e.kind (get_or t.cells k zero_cell) (get_or t.pool e.amount free_message)
-        → p ≡ reply_of c.reply (get_or t.serials r (record { 0 = 0 })).0 (get_or t.pool e.amount free_message)
-        → tag ≡ tag_of c.reply (get_or t.pool e.amount free_message).line (get_or t.serials r (record { 0 = 0 })).0
-        → StepTaken t e (record { sizes = t.sizes; serials = t.serials; cells = set t.cells k c.cell; pool = set t.pool e.amount p }) c.answer (set tags e.amount tag)
-    unfolding slot_at serial_at with_slot with_cell cell_at
-    slot_turn {k} {r} pk pr {z} hz {c} {p} {tag} hc hp hg =
-        let ad = well_address t w e.amount near busy in
-        let zs = well_sizes t w in
-        let hk = place_is pk (omega arith) (omega arith) in
-        let hr = row_is pr (omega arith) in
-        let h = rw (hz, hk, hr) at hc in
-        turn_of t e slot_step (rw (hk, hp, hr, h)) (ap (λ (c : Arrival). c.answer) h)
-        (tag_set e.amount p tagged slots sized.pool near
-        (hg ∙ reply_tag c.reply (get_or t.serials r (record { 0 = 0 })).0 (slot_at t e.amount) ∙ ap slot_tag (sym hp)))
-        (simp length-set slots)
+  pub slot_taken : {k r : ℕ} → k ≡ place_of (get_or t.pool e.amount free_message).line (get_or t.pool e.amount free_message).destination
+      → r ≡ row_of (get_or t.pool e.amount free_message).line → {c : Arrival} {p : Message} {tag : ℕ}
+      → c ≡ arrive_of t.sizes.total.0 (get_or t.serials r (record { 0 = 0 })).0 e e.kind (get_or t.cells k zero_cell) (get_or t.pool e.amount free_message)
+      → p ≡ reply_of c.reply (get_or t.serials r (record { 0 = 0 })).0 (get_or t.pool e.amount free_message)
+      → tag ≡ tag_of c.reply (get_or t.pool e.amount free_message).line (get_or t.serials r (record { 0 = 0 })).0
+      → Taken t e (record { sizes = t.sizes; serials = t.serials; cells = set t.cells k c.cell; pool = set t.pool e.amount p }) c.answer (set tags e.amount tag)
+  unfolding slot_at serial_at with_slot with_cell cell_at
+  slot_taken {k} {r} pk pr {c} {p} {tag} hc hp hg =
+      let ad = well_address t h.well e.amount near busy in
+      let zs = well_sizes t h.well in
+      let hk = place_is pk (omega arith) (omega arith) in
+      let hr = row_is pr (omega arith) in
+      let a = rw (hk, hr) at hc in
+      taken h e (slot_step ∙ rw (hk, hp, hr, a))
+      (tag_set e.amount p h.tagged h.slots h.sized.pool near
+      (hg ∙ reply_tag c.reply (get_or t.serials r (record { 0 = 0 })).0 (slot_at t e.amount) ∙ ap slot_tag (sym hp)))

@@ -1,19 +1,28 @@
--- One turn of the run's loop is one step of the definition: what a turn is, and the turn of a refusal. Assumes nothing.
+-- A turn: what a method of the run leaves is what the step of the event leaves. Assumes nothing.
 use Prim.Native.Nat.{ℕ, ◌<◌}
+use mathlib.Core.Bool.{true}
 use mathlib.Core.Path.{◌≡◌, refl, sym, ap, ◌∙◌}
-use mathlib.Core.Logic.{◌≢◌}
 use mathlib.Core.List.{List}
 use native.Mathlib.Omega.{arith}
 use native.Mathlib.Decide.{ℕ_discrete}
 use lib.ListN.{length, set}
 use lib.Seq.{get_or-set_same, get_or-set_other}
+use mathlib.Core.Logic.{◌≢◌}
 use borrow.Author.Tests.{ne_eqb}
-use Rattle.running.specs.Types.{Message, State, Event, Answer, Stepped}
+use Rattle.rules.specs.declared.refusals.Refusal.{Refusal}
+use Rattle.rules.specs.declared.refusals.Refusal.TheVariants.{IllFormed, Unknown, NoLine, NoNode, Memory, NoMessage, ToItself, WrongAmount, WrongOwner, Blocked, NotValid, NoFreeSlot, NotAble, WantsAlready, AbleAlready, NoCause, NextSerialBorne, NothingLeft, WrongSize, UnevenWords, NoRoom, BackupElsewhere}
+use Rattle.running.specs.declared.steps.Run.{Run}
+use Rattle.running.specs.Types.{Message, State, Event, Answer}
 use Rattle.rules.specs.States.{free_message}
+use Rattle.rules.specs.Kinds.{number_of}
+use Rattle.rules.specs.WellFormed.{well_formed}
 use Rattle.rules.specs.Refusals.{refusal}
 use Rattle.rules.specs.Effects.{answer, step_of}
 use Rattle.numbers.specs.Tags.{slot_tag, Tagged}
+use Rattle.running.specs.Steps.{stepped}
+use Rattle.rules.proofs.Laws.Views.{Sized}
 use Rattle.rules.proofs.Keeps.Numbers.{step_refused}
+use Rattle.rules.proofs.Keeps.Steps.{step_keeps_well_formed}
 
 -- the tags of the slots, after one is replaced
 pub tag_set : {tags : List ℕ} {pool : List Message} (i : ℕ) {tag : ℕ} (m : Message) → Tagged tags pool → length tags ≡ 64 → length pool ≡ 64 → i < 64
@@ -27,19 +36,30 @@ tag_set {tags} {pool} i {tag} m h lt lp l e =
           ];
     }
 
--- what a turn leaves is what the step of the event leaves
-pub record StepTaken (t : State) (e : Event) (u : State) (a : Answer) (tags : List ℕ) : Type 0 where
-  pub state : u ≡ (step_of t e).state
-  pub answer : a ≡ (step_of t e).answer
-  pub tagged : Tagged tags u.pool
+-- what a run holds between two events
+pub record Held (t : State) (tags : List ℕ) : Type 0 where
+  pub sized : Sized t
+  pub well : well_formed t ≡ true
+  pub tagged : Tagged tags t.pool
   pub slots : length tags ≡ 64
 
--- from the whole step
-pub turn_of : (t : State) (e : Event) {r : Stepped} {u : State} {a : Answer} {tags : List ℕ} → step_of t e ≡ r → u ≡ r.state → a ≡ r.answer → Tagged tags u.pool → length tags ≡ 64 → StepTaken t e u a tags
-turn_of t e h p q m l =
-    record { state = p ∙ ap (λ (r : Stepped). r.state) (sym h); answer = q ∙ ap (λ (r : Stepped). r.answer) (sym h); tagged = m; slots = l }
+pub held : (r : Run) → (length r.state.cells ≡ 144) × (length r.state.pool ≡ 64) × (length r.state.serials ≡ 16) × (length r.tags ≡ 64) → Held r.state r.tags
+held r n = record { sized = record { cells = n.0; pool = n.1; serials = n.2 }; well = r.well; tagged = r.tagged; slots = n.3 }
+
+-- what an accepted event leaves
+pub record Taken (t : State) (e : Event) (u : State) (a : Answer) (tags : List ℕ) : Type 0 where
+  pub step : step_of t e ≡ stepped u a
+  pub well : well_formed u ≡ true
+  pub tagged : Tagged tags u.pool
+
+pub taken : {t : State} {old : List ℕ} → Held t old → (e : Event) {u : State} {a : Answer} {tags : List ℕ} → step_of t e ≡ stepped u a → Tagged tags u.pool → Taken t e u a tags
+taken {t} h e {u} d m =
+    record { step = d; well = ap (λ s. well_formed s.state) (sym d) ∙ step_keeps_well_formed t h.sized h.well e; tagged = m }
+
+-- no reason has the number 0
+pub number_some : (why : Refusal) → number_of why ≢ 0
+number_some why h = grind arith
 
 -- a refusal leaves all as it was
-pub refused_turn : (t : State) (e : Event) {tags : List ℕ} → Tagged tags t.pool → length tags ≡ 64 → {n : ℕ} {a : Answer} → refusal t e ≡ n → n ≢ 0 → a ≡ answer n 0 64
-    → StepTaken t e t a tags
-refused_turn t e tagged slots {n} h d g = turn_of t e (step_refused t e (rw h (ne_eqb n 0 d))) refl (g ∙ rw h) tagged slots
+pub refused : (t : State) (e : Event) (why : Refusal) → refusal t e ≡ number_of why → step_of t e ≡ stepped t (answer (number_of why) 0 64)
+refused t e why h = step_refused t e (rw h (ne_eqb (number_of why) 0 (number_some why))) ∙ rw h
