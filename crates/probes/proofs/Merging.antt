@@ -69,8 +69,8 @@ done_told =
     (λ x y xs ys j _ h. h ∙ sym (eqb-suc-suc _ _)) (λ x y xs ys j _ h. h)
 
 -- each record that is written was taken
-pub all_taken : (xs ys : List (List ℕ)) → length (joined xs ys).written ≡ (joined xs ys).firsts + (joined xs ys).seconds
-all_taken =
+pub as_written : (xs ys : List (List ℕ)) → length (joined xs ys).written ≡ (joined xs ys).firsts + (joined xs ys).seconds
+as_written =
     by_steps (λ xs ys j. length j.written ≡ j.firsts + j.seconds) (λ ys. refl) (λ x xs. refl)
     (λ x y xs ys j _ h. omega arith) (λ x y xs ys j _ h. omega arith)
 

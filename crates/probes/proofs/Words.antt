@@ -9,7 +9,7 @@ use lib.Seq.{drop-drop, length-take-le, take_at, drop_at}
 use Rattle.probes.specs.Records.{records, records_of, words_of}
 use Rattle.probes.specs.Joins.{joined}
 use Rattle.probes.proofs.Chunks.{records_none, records_more}
-use Rattle.probes.proofs.Merging.{by_steps, all_taken}
+use Rattle.probes.proofs.Merging.{by_steps, as_written}
 
 -- the library's chunks of nine words are the records
 pub chunks : (k : ℕ) (s : List ℕ) → first_chunks 9 k s ≡ records k s
@@ -49,7 +49,7 @@ words_long (more {r} {rs} h n) = let e = words_long n in simp length-append (ome
 
 pub words_taken : (xs ys : List (List ℕ)) → Nines xs → Nines ys
     → length (words_of (joined xs ys).written) ≡ 9 * ((joined xs ys).firsts + (joined xs ys).seconds)
-words_taken xs ys m n = words_long (joined_nine xs ys m n) ∙ rw (all_taken xs ys) refl
+words_taken xs ys m n = words_long (joined_nine xs ys m n) ∙ rw (as_written xs ys) refl
 
 record_append : (r w : List ℕ) → length r ≡ 9 → records_of (r ++ w) ≡ r ∷ records_of w
 record_append r w h =
