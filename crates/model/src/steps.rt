@@ -1,11 +1,12 @@
 // The step and the batch, over a run in place.
-ghost use Rattle.std.specs.Prelude.{◌≡◌};
+ghost use Rattle.std.specs.Prelude.{◌≡◌, IfOk};
+ghost use Rattle.rules.specs.Kinds.{number_in};
 ghost use Rattle.rules.specs.Effects.{step_of};
-ghost use Rattle.rules.specs.Runs.{batch_of, batch_answers};
-ghost use Rattle.model.specs.Words.{batched_of};
+ghost use Rattle.rules.specs.Runs.{count_of, batch_number, batch_of, batch_answers};
 
 use parts::changes::answer;
 use rules::events::{Batched, Event, Stepped};
+use rules::refusals::Refusal;
 use rules::states::State;
 use running::run;
 
@@ -16,7 +17,7 @@ pub fn step(s: State, e: Event) -> Stepped
     let words = [
         e.kind, e.line, e.node, e.other, e.amount, e.owner, e.full, e.word,
     ];
-    let mut out = [0u32; 3];
+    let mut out = [0; 3];
     let after = run(s, &words, &mut out);
     Stepped {
         state: after,
@@ -24,28 +25,36 @@ pub fn step(s: State, e: Event) -> Stepped
     }
 }
 
-// What a batch returns: its number, the state, and the count of events run.
-fn batched(number: u32, state: State, count: usize) -> Batched
-    ensures { result ≡ batched_of number state count }
-{
-    Batched {
-        number,
-        state,
-        count,
-    }
-}
-
-// A run over the events in a list of words, eight for each, with three answer words for each.
-pub fn batch(s: State, events: &[u32], answers: &mut [u32]) -> Batched
-    ensures { (result ≡ batch_of s events.now answers.old) × (answers.new ≡ batch_answers s events.now answers.old) }
+// How many events a batch has, eight words for each, where there is room for three answer words for each.
+#[tactic(auto, unfolding(rules::specs::Runs::batch_number))]
+fn events_in(events: &[u32], answers: &[u32]) -> Result<usize, Refusal>
+    ensures number { number_in result ≡ batch_number events.now answers.now }
+    ensures count { IfOk result (λ n. n ≡ count_of events.now) }
 {
     let count = events.len() / 8;
     if events.len() % 8 != 0 {
-        return batched(20, s, 0);
+        return Err(Refusal::UnevenWords);
     }
-    if answers.len() / 3 < count {
-        return batched(21, s, 0);
+    if answers.len() < 3 * count {
+        return Err(Refusal::NoRoom);
     }
-    let ran = run(s, events, answers);
-    batched(0, ran, count)
+    Ok(count)
+}
+
+// A run over the events in a list of words, with three answer words for each.
+pub fn batch(s: State, events: &[u32], answers: &mut [u32]) -> Batched
+    ensures { (result ≡ batch_of s events.now answers.old) × (answers.new ≡ batch_answers s events.now answers.old) }
+{
+    match events_in(events, answers) {
+        Ok(count) => Batched {
+            number: 0,
+            state: run(s, events, answers),
+            count,
+        },
+        Err(why) => Batched {
+            number: why.number(),
+            state: s,
+            count: 0,
+        },
+    }
 }

@@ -5,12 +5,16 @@ use mathlib.Core.List.{List, [], ◌∷◌}
 use native.Mathlib.Omega.{arith}
 use lib.ListN.{length, get_or}
 use lib.Seq.{sets, sets-eq}
-use borrow.Author.Tests.{eq-eqb, ne_eqb, lt-ltb, le-ltb, le-leb}
+use lib.Dec.{eqb, ltb}
+use borrow.Author.Tests.{ne_eqb, ltb-false, le-leb}
+use Rattle.rules.specs.declared.refusals.Refusal.{Refusal}
+use Rattle.rules.specs.Kinds.{number_of}
 use Rattle.model.specs.Types.{State, Event, Answer, Stepped, Batched}
 use Rattle.rules.specs.Effects.{answer, step_of}
 use Rattle.rules.specs.Runs.{run_of, answers_of, words_of, events_to, events_of, count_of, batch_number, batch_of, batch_answers}
-use Rattle.model.specs.Words.{batched_of}
 use Rattle.running.specs.Words.{runnable}
+use Rattle.rules.proofs.Laws.Bools.{split}
+use Rattle.running.proofs.Facts.Turns.{number_some}
 use Rattle.running.proofs.Facts.Ill.{events_long}
 
 -- the words of an event record
@@ -36,34 +40,34 @@ words_long [] = refl
 words_long (a ∷ answers) = let h = words_long answers in omega arith
 
 module _ (s : State) (ws o : List ℕ) where
-  pub batch_20 : (length ws % 8 ≡ 0 → ⊥) → {r : Batched} → r ≡ batched_of 20 s 0 → (r ≡ batch_of s ws o) × (o ≡ batch_answers s ws o)
-  unfolding batch_number batch_of batch_answers
-  batch_20 d h = (rw (h, ne_eqb (length ws % 8) 0 d), rw (ne_eqb (length ws % 8) 0 d))
+  pub batch_refused : (why : Refusal) → number_of why ≡ batch_number ws o
+      → (◌≡◌ {A = Batched} (record { number = number_of why; state = s; count = 0 }) (batch_of s ws o)) × (o ≡ batch_answers s ws o)
+  unfolding batch_of batch_answers
+  batch_refused why h =
+      let some = ne_eqb (number_of why) 0 (number_some why) in
+      (rw (← h, some), rw (← h, some))
 
-  module _ (whole : length ws % 8 ≡ 0) where
-    pub batch_21 : length o / 3 < length ws / 8 → {r : Batched} → r ≡ batched_of 21 s 0 → (r ≡ batch_of s ws o) × (o ≡ batch_answers s ws o)
-    unfolding batch_number batch_of batch_answers
-    batch_21 l h =
-        let f = lt-ltb (length o) (3 * (length ws / 8)) (omega arith) in
-        (rw (h, eq-eqb (length ws % 8) 0 whole, f), rw (eq-eqb (length ws % 8) 0 whole, f))
+  module _ (taken : 0 ≡ batch_number ws o) where
+    room : length ws / 8 ≤ length o / 3
+    unfolding batch_number
+    room =
+        split (eqb (length ws % 8) 0)
+        (λ t. split (ltb (length o) (3 * (length ws / 8))) (λ y. absurd (omega (arith, rw (t, y) at taken))) (λ n. omega (arith, ltb-false (length o) (3 * (length ws / 8)) n)))
+        (λ f. absurd (omega (arith, rw f at taken)))
 
-    module _ (room : length ws / 8 ≤ length o / 3) where
-      taken : batch_number ws o ≡ 0
-      unfolding batch_number
-      taken = rw (eq-eqb (length ws % 8) 0 whole, le-ltb (length o) (3 * (length ws / 8)) (omega arith))
+    written : sets o 0 (words_of (answers_of s (events_of ws))) ≡ batch_answers s ws o
+    unfolding batch_answers
+    written =
+        let n : length (words_of (answers_of s (events_of ws))) ≡ 3 * count_of ws = words_long (answers_of s (events_of ws)) ∙ ap (λ k. 3 * k) (answers_long s (events_of ws) ∙ events_long (count_of ws) ws) in
+        let r = room in
+        sets-eq (words_of (answers_of s (events_of ws))) o 0 (omega arith)
+        ∙ (let z : 0 + length (words_of (answers_of s (events_of ws))) ≡ 3 * count_of ws = omega arith in rw (z, ← taken))
 
-      written : sets o 0 (words_of (answers_of s (events_of ws))) ≡ batch_answers s ws o
-      unfolding batch_answers
-      written =
-          let n : length (words_of (answers_of s (events_of ws))) ≡ 3 * count_of ws = words_long (answers_of s (events_of ws)) ∙ ap (λ k. 3 * k) (answers_long s (events_of ws) ∙ events_long (count_of ws) ws) in
-          sets-eq (words_of (answers_of s (events_of ws))) o 0 (omega arith)
-          ∙ (let z : 0 + length (words_of (answers_of s (events_of ws))) ≡ 3 * count_of ws = omega arith in rw (z, taken))
+    all : runnable (length ws) (length o) ≡ length ws / 8
+    unfolding runnable
+    all = rw (le-leb (length ws / 8) (length o / 3) room)
 
-      all : runnable (length ws) (length o) ≡ length ws / 8
-      unfolding runnable
-      all = rw (le-leb (length ws / 8) (length o / 3) room)
-
-      pub batch_ran : {t : State} {o' : List ℕ} {r : Batched} → t ≡ run_of s (events_to (runnable (length ws) (length o)) ws) → o' ≡ sets o 0 (words_of (answers_of s (events_to (runnable (length ws) (length o)) ws)))
-          → r ≡ batched_of 0 t (length ws / 8) → (r ≡ batch_of s ws o) × (o' ≡ batch_answers s ws o)
-      unfolding batch_of
-      batch_ran ht ho hr = (rw (hr, ht, all, taken), (rw all at ho) ∙ written)
+    pub batch_ran : {t : State} {o' : List ℕ} {n : ℕ} → t ≡ run_of s (events_to (runnable (length ws) (length o)) ws) → o' ≡ sets o 0 (words_of (answers_of s (events_to (runnable (length ws) (length o)) ws)))
+        → n ≡ count_of ws → (◌≡◌ {A = Batched} (record { number = 0; state = t; count = n }) (batch_of s ws o)) × (o' ≡ batch_answers s ws o)
+    unfolding batch_of
+    batch_ran ht ho hn = (rw (ht, all, ← taken, hn), (rw all at ho) ∙ written)
