@@ -5,7 +5,6 @@ ghost use Rattle.lines.specs.Parts.{running};
 
 use crate::kept::{Advanced, Kept};
 use rules::states::State;
-use text::least;
 
 // As many lines as there is room for, by way of the lists lent. One batch runs all their events: a line that is not readable
 // changes nothing.
@@ -20,7 +19,7 @@ pub(crate) fn run(
     ensures value { result ≡ advanced (running state) s.now (lent words.old marks.old answers.old out.old) }
     ensures out_after { lent words.new marks.new answers.new out.new ≡ lent_after (running state) s.now (lent words.old marks.old answers.old out.old) }
 {
-    let most = least(out.len() / 33, answers.len() / 3);
+    let most = (out.len() / 33).min(answers.len() / 3);
     let p = text::parse(s, most, words, marks);
     let count = p.words;
     let lines = p.lines;

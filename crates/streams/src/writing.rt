@@ -5,7 +5,6 @@ ghost use Rattle.streams.specs.Sends.{Sends};
 
 use std::io;
 use std::io::{ErrorKind, Write};
-use text::least;
 
 // One write, tried again where a signal broke it off: how many bytes it took.
 fn write_once<W: Write>(to: &mut W, part: &[u8]) -> io::Result<usize>
@@ -29,7 +28,7 @@ fn write_once<W: Write>(to: &mut W, part: &[u8]) -> io::Result<usize>
 pub fn send<W: Write>(to: &mut W, out: &[u8], size: usize) -> io::Result<()>
     ensures { Sends out.now size (is_ok result) }
 {
-    let end = least(size, out.len());
+    let end = size.min(out.len());
     let mut at: usize = 0;
     while at < end {
         let put = write_once(to, &out[at..end])?;

@@ -3,8 +3,7 @@ ghost use Rattle.std.specs.Prelude.{◌≤◌, ◌≡◌, length, take, drop};
 ghost use Rattle.std.proofs.lemmas.List.Edits.{sets};
 ghost use Rattle.trace.specs.Arrivals.{ready_in, clipped};
 
-use held::{bytes_up, whole};
-use text::least;
+use held::{move_up, whole};
 
 // How many bytes of `s` can be answered.
 pub(crate) fn ready(s: &[u8], last: bool) -> usize
@@ -20,7 +19,7 @@ fn held_of(s: &[u8]) -> usize
     ensures upper_bound { result ≤ length s.now }
 {
     if whole(s) == 0 {
-        least(s.len(), 97)
+        s.len().min(97)
     } else {
         s.len()
     }
@@ -33,5 +32,5 @@ pub(crate) fn hold(buf: &mut [u8], from: usize, to: usize) -> usize
     ensures buf_after { buf.new ≡ sets buf.old 0 (clipped (drop from (take to buf.old))) }
 {
     let n = held_of(&buf[from..to]);
-    bytes_up(buf, from, n)
+    move_up(buf, from, n)
 }

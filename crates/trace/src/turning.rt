@@ -6,7 +6,6 @@ ghost use Rattle.trace.specs.Arrivals.{ready_in, held_after, turned};
 
 use crate::holding::{hold, ready};
 use lines::{Kept, advance};
-use text::least;
 
 // What is kept after a turn, how many bytes are held at the front, and how many were put for the lines answered.
 #[derive(Clone, Copy)]
@@ -32,7 +31,7 @@ pub fn turn(
     ensures out_after { lent words.new marks.new answers.new out.new ≡ lent_after kept (ready_in last (take held buf.old)) (lent words.old marks.old answers.old out.old) }
     ensures buf_after { buf.new ≡ sets buf.old 0 (held_after (most_lines kept (lent words.old marks.old answers.old out.old)) last (take held buf.old)) }
 {
-    let to = least(held, buf.len());
+    let to = held.min(buf.len());
     let end = ready(&buf[0..to], last);
     let a = advance(kept, &buf[0..end], words, marks, answers, out);
     let from = a.read;

@@ -20,7 +20,7 @@ slice_bounds-print-end c =
 pub returns : goal.returns
 returns c =
     let a = c.args in
-    let m = c.least-most in
+    let m = c.min-most in
     let p = c.parse-p in
     let b = c.batch-b in
     let w = c.print-written in

@@ -3,7 +3,7 @@ use Rattle.trace.proofs.holding.held_of.Goals as goal
 
 pub returns-then-whole-eq0 : goal.returns-then-whole-eq0
 returns-then-whole-eq0 c =
-    let f = held_some c.args.s.now c.whole.result c.least.result c.whole.ensures c.if-whole-eq0.true c.least.ensures in
+    let f = held_some c.args.s.now c.whole.result c.min.result c.whole.ensures c.if-whole-eq0.true c.min.ensures in
     record { s_value = f.0; upper_bound = f.1 }
 
 pub returns-else-whole-eq0 : goal.returns-else-whole-eq0

@@ -6,6 +6,6 @@ returns c =
     let a = c.args in
     let p = c.requires in
     let n = c.held_of-n in
-    let b = c.bytes_up in
-    let h = holds a.buf.now a.from a.to n.result p.0 p.1 (n.ensures.s_value, n.ensures.upper_bound) b.result b.new.buf (b.ensures.value, b.ensures.buf_after) in
+    let b = c.move_up in
+    let h = holds a.buf.now a.from a.to n.result p.0 p.1 (n.ensures.s_value, n.ensures.upper_bound) b.result b.new.list (b.ensures.value, b.ensures.list_after) in
     record { value = h.0; buf_after = h.1 }

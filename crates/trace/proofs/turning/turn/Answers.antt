@@ -10,7 +10,7 @@ hold-left-requires c =
     let a = c.args in
     let l = lent a.words.now a.marks.now a.answers.now a.out.now in
     let f = read_fits a.kept a.buf.now l c.ready-end.result c.advance-a.result c.advance-a.ensures.value in
-    let to = c.least-to in
+    let to = c.min-to in
     let m = length-take (to.result - 0) a.buf.now in
     (omega (arith, f, c.ready-end.ensures.upper_bound, m), omega (arith, to.ensures))
 
@@ -18,7 +18,7 @@ pub returns : goal.returns
 returns c =
     let a = c.args in
     let l = lent a.words.now a.marks.now a.answers.now a.out.now in
-    let to = c.least-to in
+    let to = c.min-to in
     let r = c.ready-end in
     let t = c.advance-a in
     let h = c.hold-left in
