@@ -6,15 +6,8 @@
 
 ghost use Rattle.std.specs.Prelude.{◌≤◌};
 
+use probes::{Joined, join};
 use std::io::Read;
-
-// What the last join gave.
-#[derive(Clone, Copy)]
-struct Ended {
-    number: u32,
-    count: usize,
-    left: usize,
-}
 
 // The next of a sequence of numbers that look random.
 fn next(x: u32) -> u32 {
@@ -31,64 +24,42 @@ fn gap(way: u8, x: u32) -> u32 {
     if y % 8 == 0 { 20 } else { y % 3 }
 }
 
-// A list's word at place `i`: a record's time, or what looks random.
-fn word_at(i: usize, time: u32, x: u32) -> u32 {
-    if i % 9 == 0 { time } else { x }
-}
-
-// The time that comes after the word at place `i`.
-fn time_after(i: usize, time: u32, way: u8, x: u32) -> u32 {
-    if i % 9 == 0 {
-        time.wrapping_add(gap(way, x))
-    } else {
-        time
-    }
-}
-
-// Fills a list with records from time `start` on.
+// Fills a list with records from time `start` on: the words after a time look random.
 fn fill(list: &mut [u32], way: u8, start: u32, seed: u32) {
-    let n = list.len();
     let mut time = start;
     let mut x = seed;
-    let mut i: usize = 0;
-    while i < n {
+    for record in list.chunks_exact_mut(9) {
         x = next(x);
-        list[i] = word_at(i, time, x);
-        time = time_after(i, time, way, x);
-        i += 1;
+        record[0] = time;
+        time = time.wrapping_add(gap(way, x));
+        for word in &mut record[1..] {
+            x = next(x);
+            *word = x;
+        }
     }
 }
 
 // The sum of the sums up to each word.
 fn sum(list: &[u32]) -> u32 {
-    let n = list.len();
     let mut one: u32 = 0;
     let mut all: u32 = 0;
-    let mut i: usize = 0;
-    while i < n {
-        one = one.wrapping_add(list[i]);
+    for word in list {
+        one = one.wrapping_add(*word);
         all = all.wrapping_add(one);
-        i += 1;
     }
     all
 }
 
-// The joins, one after another.
-fn run<'a>(joins: usize, first: &'a [u32], second: &'a [u32], third: &mut [u32]) -> Ended {
-    let mut number: u32 = 0;
-    let mut count: usize = 0;
-    let mut left: usize = 0;
-    let mut i: usize = 0;
-    while i < joins {
-        let rest = probes::join(first, second, third, &mut number, &mut count);
-        left = rest.len();
-        i += 1;
+// The joins, one after another: what the last gave.
+fn run<'a>(joins: usize, first: &'a [u32], second: &'a [u32], third: &mut [u32]) -> Joined<'a> {
+    let mut last = Joined {
+        count: Ok(0),
+        rest: &[],
+    };
+    for _ in 0..joins {
+        last = join(first, second, third);
     }
-    Ended {
-        number,
-        count,
-        left,
-    }
+    last
 }
 
 // The words of so many records.
@@ -104,9 +75,12 @@ fn start_of(way: u8, own: u8, early: u32) -> u32 {
 }
 
 // Prints what the last join gave, and the sum of the third list.
-fn show(rt: &impl Print, e: Ended, third: &[u32]) {
-    let all = sum(third);
-    let _ = println!(rt; "{} {} {} {all}", e.number, e.count, e.left);
+fn show(rt: &impl Print, last: Joined, third: &[u32]) {
+    let (number, count) = match last.count {
+        Ok(count) => (0, count),
+        Err(why) => (why.number(), 0),
+    };
+    let _ = println!(rt; "{number} {count} {} {}", last.rest.len(), sum(third));
 }
 
 // Makes two lists of so many words each, joins them so often, and once the other way round.
@@ -127,6 +101,5 @@ fn measure(rt: &impl Print, way: u8, n: usize, joins: usize)
 fn main(rt: HostRuntime) {
     let mut buf = [0u8; 4096];
     let bytes = rt.stdin().read(&mut buf).unwrap_or(0);
-    let joins = if bytes < 2 { 0 } else { bytes - 2 };
-    measure(&rt, buf[0], words_of(buf[1]), joins);
+    measure(&rt, buf[0], words_of(buf[1]), bytes.saturating_sub(2));
 }

@@ -1,23 +1,20 @@
 -- What `join` answers, from what was found and what was merged. Assumes nothing.
-use Prim.Native.Nat.{ℕ, ◌+◌, ◌-◌, ◌*◌, ◌≤◌}
+use Prim.Native.Nat.{ℕ, ◌+◌, ◌-◌, ◌*◌}
 use mathlib.Core.Path.{◌≡◌, refl, sym, ◌∙◌}
-use mathlib.Core.Bool.{true, false}
+use mathlib.Core.Bool.{false}
 use mathlib.Core.List.{List, ◌++◌}
 use native.Mathlib.Omega.{arith}
-use native.Mathlib.Nat.{zero-add}
-use borrow.Author.Tests.{ne_eqb}
+use borrow.Author.Tests.{eq-eqb, ne_eqb}
 use lib.ListN.{length, take, drop, length-drop}
-use lib.Seq.{sets, sets-eq, take_all}
+use lib.Seq.{take_all}
 use denote.Ref.{Bor}
-use Rattle.probes.specs.declared.joining.Merged.{Merged}
-use Rattle.probes.specs.Records.{words_of}
-use Rattle.probes.specs.Joins.{Joined, stop, number_of, join_of, From, Rest, Joins}
-use Rattle.probes.specs.Parts.{joins, Merges}
+use Rattle.probes.specs.declared.joining.Taken.{Taken}
+use Rattle.probes.specs.Records.{records_of, words_of}
+use Rattle.probes.specs.Joins.{Joined, stop, joined, number_of, join_of, From, Rest, Joins}
+use Rattle.probes.specs.Parts.{Merges}
 use Rattle.probes.proofs.Refusals.{Accepted, accepted}
-
--- a run of stores from the start on, and what stays after it
-sets_front : (w d : List ℕ) → length w ≤ length d → sets d 0 w ≡ w ++ drop (length w) d
-sets_front w d h = sets-eq w d 0 (omega arith) ∙ rw (zero-add (length w))
+use Rattle.probes.proofs.Merging.{done_told}
+use Rattle.probes.proofs.Words.{all_nine, words_taken}
 
 -- `&s[k..]` is s from its word k on
 pub tail : (s : Bor (List ℕ)) (k : ℕ) (r : Bor (List ℕ)) → r.now ≡ take (length s.now - k) (drop k s.now) → r.ref_ptr.0 ≡ s.ref_ptr.0
@@ -42,20 +39,20 @@ module _ (a b : Bor (List ℕ)) (third : List ℕ) (n : ℕ) (e : n ≡ number_o
     pub known : Accepted a.now b.now (length third)
     known = accepted a.now b.now (length third) (sym e ∙ z)
 
-    pub took : join_of a.now b.now (length third) ≡ joins a.now b.now
+    pub took : join_of a.now b.now (length third) ≡ joined (records_of a.now) (records_of b.now)
     unfolding join_of
     took = rw (← e, z)
 
-    module _ (third' : List ℕ) (t : Merged) (g : Merges a.now b.now third third' t) (count : ℕ) (r : Bor (List ℕ)) (m : count ≡ t.first + t.second) where
-      done : Rest a b (joins a.now b.now) r → Joins a b third n count third' r
-      done f =
-          let k = known in
-          let l : count ≡ length (words_of (joins a.now b.now).written) = m ∙ g.long in
-          answers (joins a.now b.now) took count third' r l
-          (g.written ∙ sets_front (words_of (joins a.now b.now).written) third (omega arith) ∙ rw (← l)) f
+    module _ (third' : List ℕ) (t : Taken) (g : Merges (records_of a.now) (records_of b.now) third third' t) where
+      taken : 9 * (t.first + t.second) ≡ length (words_of (joined (records_of a.now) (records_of b.now)).written)
+      taken = rw (g.firsts, g.seconds) (sym (words_taken _ _ (all_nine a.now) (all_nine b.now)))
 
-      pub second_rest : t.done ≡ true → From b t.second r → Joins a b third n count third' r
-      second_rest d f = done (rw (sym g.done ∙ d, ← g.seconds) f)
+      module _ (r : Bor (List ℕ)) where
+        done : Rest a b (joined (records_of a.now) (records_of b.now)) r → Joins a b third n (9 * (t.first + t.second)) third' r
+        done f = answers (joined (records_of a.now) (records_of b.now)) took _ third' r taken (g.written ∙ rw (← taken) refl) f
 
-      pub first_rest : t.done ≡ false → From a t.first r → Joins a b third n count third' r
-      first_rest d f = done (rw (sym g.done ∙ d, ← g.firsts) f)
+        pub second_rest : t.first ≡ length (records_of a.now) → From b (9 * t.second) r → Joins a b third n (9 * (t.first + t.second)) third' r
+        second_rest d f = done (rw (done_told (records_of a.now) (records_of b.now), eq-eqb _ _ (sym g.firsts ∙ d), ← g.seconds) f)
+
+        pub first_rest : (t.first ≡ length (records_of a.now) → ⊥) → From a (9 * t.first) r → Joins a b third n (9 * (t.first + t.second)) third' r
+        first_rest d f = done (rw (done_told (records_of a.now) (records_of b.now), ne_eqb _ _ (λ e. d (g.firsts ∙ e)), ← g.firsts) f)

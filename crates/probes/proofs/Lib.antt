@@ -1,4 +1,5 @@
 pub mod Chunks
+pub mod Falls
 pub mod Going
 pub mod Refusals
 pub mod Answers

@@ -1,12 +1,13 @@
 -- The join of records: its four equations, what holds of it step by step, and that all records are written or left. Assumes nothing.
 use Prim.Native.Nat.{ℕ, suc, ◌+◌, ◌≤◌, ◌<◌}
-use mathlib.Core.Path.{◌≡◌, refl, ap}
+use mathlib.Core.Path.{◌≡◌, refl, sym, ap, ◌∙◌}
 use mathlib.Core.Bool.{Bool, true, false, cond as pick}
 use mathlib.Core.List.Permᴰ
 use mathlib.Core.List.{List, [], ◌∷◌, ◌++◌, Permᴰ}
 use native.Mathlib.Omega.{arith}
 use borrow.Author.Tests.{leb-true, leb-false, le-leb, lt-leb}
-use lib.Dec.{leb}
+use Rattle.std.proofs.Math.Dec.{eqb-zero-suc, eqb-suc-suc}
+use lib.Dec.{leb, eqb}
 use lib.ListN.{length}
 use Rattle.probes.specs.Records.{time_of}
 use Rattle.probes.specs.Joins.{Joined, stop, by_first, by_second, ahead, joined}
@@ -60,6 +61,18 @@ one_first false f s n m e = e
 one_second : (d : Bool) (f s n m : ℕ) → pick d f s ≡ pick d n m → pick d f (suc s) ≡ pick d n (suc m)
 one_second true f s n m e = e
 one_second false f s n m e = ap suc e
+
+-- the first list is used up where all its records are taken
+pub done_told : (xs ys : List (List ℕ)) → (joined xs ys).first_done ≡ eqb (joined xs ys).firsts (length xs)
+done_told =
+    by_steps (λ xs ys j. j.first_done ≡ eqb j.firsts (length xs)) (λ ys. refl) (λ x xs. sym (eqb-zero-suc _))
+    (λ x y xs ys j _ h. h ∙ sym (eqb-suc-suc _ _)) (λ x y xs ys j _ h. h)
+
+-- each record that is written was taken
+pub as_written : (xs ys : List (List ℕ)) → length (joined xs ys).written ≡ (joined xs ys).firsts + (joined xs ys).seconds
+as_written =
+    by_steps (λ xs ys j. length j.written ≡ j.firsts + j.seconds) (λ ys. refl) (λ x xs. refl)
+    (λ x y xs ys j _ h. omega arith) (λ x y xs ys j _ h. omega arith)
 
 -- ---- what is written and then the rest
 

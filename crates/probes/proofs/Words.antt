@@ -3,12 +3,19 @@ use Prim.Native.Nat.{ℕ, zero, suc, ◌+◌, ◌-◌, ◌*◌, ◌/◌, ◌≤�
 use mathlib.Core.Path.{◌≡◌, refl, ap, ◌∙◌}
 use mathlib.Core.List.{List, [], ◌∷◌, ◌++◌}
 use native.Mathlib.Omega.{arith}
-use lib.ListN.{length, drop, length-append, length-drop}
+use Rattle.std.specs.Simd.{first_chunks}
+use lib.ListN.{length, take, drop, length-append, length-drop}
 use lib.Seq.{drop-drop, length-take-le, take_at, drop_at}
 use Rattle.probes.specs.Records.{records, records_of, words_of}
 use Rattle.probes.specs.Joins.{joined}
 use Rattle.probes.proofs.Chunks.{records_none, records_more}
-use Rattle.probes.proofs.Merging.{by_steps}
+use Rattle.probes.proofs.Merging.{by_steps, as_written}
+
+-- the library's chunks of nine words are the records
+pub chunks : (k : ℕ) (s : List ℕ) → first_chunks 9 k s ≡ records k s
+unfolding records
+chunks zero s = refl
+chunks (suc k) s = ap (λ (rs : List (List ℕ)). take 9 s ∷ rs) (chunks k (drop 9 s))
 
 -- each record has nine words
 pub data Nines : List (List ℕ) → Type 0 where
@@ -39,6 +46,10 @@ pub words_long : {rs : List (List ℕ)} → Nines rs → length (words_of rs) �
 unfolding words_of
 words_long none = omega arith
 words_long (more {r} {rs} h n) = let e = words_long n in simp length-append (omega arith)
+
+pub words_taken : (xs ys : List (List ℕ)) → Nines xs → Nines ys
+    → length (words_of (joined xs ys).written) ≡ 9 * ((joined xs ys).firsts + (joined xs ys).seconds)
+words_taken xs ys m n = words_long (joined_nine xs ys m n) ∙ rw (as_written xs ys) refl
 
 record_append : (r w : List ℕ) → length r ≡ 9 → records_of (r ++ w) ≡ r ∷ records_of w
 record_append r w h =

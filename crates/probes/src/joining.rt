@@ -1,19 +1,11 @@
 // Two lists of records are joined into a third by time.
-ghost use Rattle.std.specs.Prelude.{◌+◌, ◌%◌, ◌≤◌, false, ◌||◌, ◌≡◌, ltb, length};
-ghost use Rattle.probes.specs.Joins.{uneven, number_for, number_in, count_in, number_by, number_of, Joins};
+ghost use Rattle.std.specs.Prelude.{◌+◌, ◌*◌, ◌≤◌, ◌≡◌, length};
+ghost use Rattle.probes.specs.Joins.{number_for, number_in, count_in, number_of, Joins};
 ghost use Rattle.probes.specs.Parts.{Merges};
 
-use crate::records::{put, record_at, time_falls};
+use crate::records::{put, records, time_falls};
 
-// How many words a merge took of each list, and whether the first list is used up.
-#[derive(Clone, Copy)]
-struct Merged {
-    first: usize,
-    second: usize,
-    done: bool,
-}
-
-/// Why a join is refused: a list whose length is no multiple of nine, a third list that cannot hold both, a time that falls.
+// Why a join is refused: a list whose length is no multiple of nine, a third list that cannot hold both, a time that falls.
 #[derive(Clone, Copy, PartialEq, Eq, Debug)]
 pub enum Refusal {
     Uneven,
@@ -22,7 +14,7 @@ pub enum Refusal {
 }
 
 impl Refusal {
-    // The refusal's number.
+    // The number that the paper gives it.
     pub fn number(self) -> u32
         ensures { result ≡ number_for self }
     {
@@ -45,34 +37,43 @@ fn check(first: &[u32], second: &[u32], room: usize) -> Result<(), Refusal>
     if room < first.len() + second.len() {
         return Err(Refusal::NoRoom);
     }
-    if time_falls(first) || time_falls(second) {
+    if time_falls(records(first)) || time_falls(records(second)) {
         return Err(Refusal::TimeFalls);
     }
     Ok(())
 }
 
+// How many records a merge took of each list: of one of them all.
+#[derive(Clone, Copy)]
+struct Taken {
+    first: usize,
+    second: usize,
+}
+
 // Puts records of both lists into the third, by time, until one list is used up.
-fn merge(first: &[u32], second: &[u32], third: &mut [u32]) -> Merged
-    requires { (length first.now % 9 ≡ 0) × (length second.now % 9 ≡ 0) × (length first.now + length second.now ≤ length third.old) }
+fn merge(first: &[[u32; 9]], second: &[[u32; 9]], third: &mut [u32]) -> Taken
+    requires { 9 * (length first.now + length second.now) ≤ length third.old }
     ensures { Merges first.now second.now third.old third.new result }
 {
-    let n = first.len();
-    let m = second.len();
-    let mut i: usize = 0;
-    let mut j: usize = 0;
-    while (i < n) & (j < m) {
-        if first[i] <= second[j] {
-            put(third, i + j, record_at(first, i));
-            i += 9;
-            continue;
+    let mut firsts = first;
+    let mut seconds = second;
+    let mut at = 0;
+    while let [a, after_a @ ..] = firsts {
+        let [b, after_b @ ..] = seconds else {
+            break;
+        };
+        if a[0] <= b[0] {
+            put(third, at, a);
+            firsts = after_a;
+        } else {
+            put(third, at, b);
+            seconds = after_b;
         }
-        put(third, i + j, record_at(second, j));
-        j += 9;
+        at += 9;
     }
-    Merged {
-        first: i,
-        second: j,
-        done: i == n,
+    Taken {
+        first: first.len() - firsts.len(),
+        second: second.len() - seconds.len(),
     }
 }
 
@@ -94,14 +95,16 @@ pub fn join<'a>(first: &'a [u32], second: &'a [u32], third: &mut [u32]) -> Joine
             rest: first,
         };
     }
-    let t = merge(first, second, third);
-    let rest = if t.done {
-        &second[t.second..]
+    let firsts = records(first);
+    let seconds = records(second);
+    let taken = merge(firsts, seconds, third);
+    let rest = if taken.first == firsts.len() {
+        &second[9 * taken.second..]
     } else {
-        &first[t.first..]
+        &first[9 * taken.first..]
     };
     Joined {
-        count: Ok(t.first + t.second),
+        count: Ok(9 * (taken.first + taken.second)),
         rest,
     }
 }

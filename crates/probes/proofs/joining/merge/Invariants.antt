@@ -1,12 +1,10 @@
-use Prim.Native.Nat.{◌+◌, ◌-◌}
-use mathlib.Core.Path.{◌≡◌}
+use Prim.Native.Nat.{◌+◌}
 use lib.ListN.{length}
 use Rattle.probes.proofs.Going.{Going}
 use Rattle.probes.proofs.joining.merge.Given as goal
 
-abbrev pub invariant-loop-i : goal.invariant-loop-i
-invariant-loop-i l =
-    (l.n ≡ length l.first) × (l.m ≡ length l.second) × (length l.third ≡ length l.initial.third) × Going l.first l.second l.initial.third l.third l.i l.j
+abbrev pub invariant-loop-firsts : goal.invariant-loop-firsts
+invariant-loop-firsts l = Going l.first l.second l.firsts l.seconds l.initial.third l.third l.at
 
-abbrev pub decreases-loop-i : goal.decreases-loop-i
-decreases-loop-i l = l.n - l.i + (l.m - l.j)
+abbrev pub decreases-loop-firsts : goal.decreases-loop-firsts
+decreases-loop-firsts l = length l.firsts + length l.seconds

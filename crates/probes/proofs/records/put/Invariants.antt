@@ -1,12 +1,9 @@
-use Prim.Native.Nat.{◌+◌, ◌-◌, ◌≤◌}
-use mathlib.Core.Path.{◌≡◌}
-use lib.ListN.{length, drop}
-use lib.Seq.{sets}
+use Rattle.std.proofs.Common.{◌≡◌, ◌+◌, ◌++◌, take, drop}
 use Rattle.probes.proofs.records.put.Given as goal
 
-abbrev pub invariant-loop-i : goal.invariant-loop-i
-invariant-loop-i l =
-    (length l.dst ≡ length l.initial.dst) × (l.i ≤ 9) × (length l.r ≡ 9) × (sets l.dst (l.at + l.i) (drop l.i l.r) ≡ sets l.initial.dst l.at l.r)
-
-abbrev pub decreases-loop-i : goal.decreases-loop-i
-decreases-loop-i l = 9 - l.i
+abbrev pub invariant-loop-k : goal.invariant-loop-k
+invariant-loop-k l =
+    record {
+      written : take (l.at + l.k) l.words ≡ take l.at l.initial.words ++ take l.k l.whole;
+      kept : drop (l.at + l.k) l.words ≡ drop (l.at + l.k) l.initial.words;
+    }
