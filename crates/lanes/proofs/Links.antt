@@ -16,13 +16,13 @@ use Rattle.text.proofs.Laws.{exactly_long}
 use Rattle.writing.proofs.Rows.{line_short}
 use Rattle.probes.specs.Records.{records_of, words_of, time_of, falls_after, falls}
 use Rattle.probes.specs.Joins.{joined, number_by, number_of}
+use Rattle.probes.proofs.Merging.{as_written}
 use Rattle.probes.proofs.Rising.{rise, risen}
 use Rattle.probes.proofs.Words.{Nines, none as no_record, more, all_nine, joined_nine, words_long, of_words, so_many}
 use Rattle.lanes.specs.Files.{stopped, begun, read_line, read_lines}
 use Rattle.lanes.specs.Program.{text_of}
 use Rattle.lanes.specs.Parts.{ready_part, part_read, unread, loaded, part_of, turn_number, turn_text, left_first, left_second, turned}
 use Rattle.lanes.proofs.Leaving.{taken_in}
-use Rattle.lanes.proofs.Shown.{as_written}
 use Rattle.lanes.proofs.Ways.{read_short}
 
 -- what is put at the front of a list with room for it stands there

@@ -14,7 +14,7 @@ use Rattle.probes.specs.Records.{records_of, words_of}
 use Rattle.probes.specs.declared.joining.Refusal.{Refusal}
 use Rattle.probes.specs.declared.joining.Refusal.TheVariants.{Uneven, NoRoom, TimeFalls}
 use Rattle.probes.specs.Joins.{Joined, stop, joined, number_for, number_of, join_of, From, Joins}
-use Rattle.probes.proofs.Merging.{by_steps, first_used_up, second_used_up}
+use Rattle.probes.proofs.Merging.{as_written, first_used_up, second_used_up}
 use Rattle.probes.proofs.Refusals.{accepted}
 use Rattle.probes.proofs.Words.{all_nine, joined_nine, words_long, so_many}
 use Rattle.probes.proofs.Answers.{took}
@@ -29,12 +29,6 @@ pub some_number : (why : Refusal) → number_for why ≡ 0 → ⊥
 some_number Uneven e = omega arith
 some_number NoRoom e = omega arith
 some_number TimeFalls e = omega arith
-
--- as many records are written as are taken of both lists
-pub as_written : (xs ys : List (List ℕ)) → length (joined xs ys).written ≡ (joined xs ys).firsts + (joined xs ys).seconds
-as_written =
-    by_steps (λ xs ys j. length j.written ≡ j.firsts + j.seconds) (λ ys. refl) (λ x xs. refl)
-    (λ x y xs ys j _ h. omega arith) (λ x y xs ys j _ h. omega arith)
 
 module _ (A B : Bor (List ℕ)) (third : List ℕ) (number count : ℕ) (third' : List ℕ) (rest : Bor (List ℕ))
     (g : Joins A B third number count third' rest) (same : length third' ≡ length third) where
