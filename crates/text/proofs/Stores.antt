@@ -1,14 +1,12 @@
 -- Runs of stores. Assumes nothing.
 use Prim.Native.Nat.{ℕ, suc, ◌+◌, ◌≤◌, ◌<◌}
-use mathlib.Core.Path.{◌≡◌, refl, sym, ap, ◌∙◌}
+use mathlib.Core.Path.{◌≡◌, sym, ◌∙◌}
 use mathlib.Core.List.{List, [], ◌∷◌, ◌++◌}
 use native.Mathlib.Omega.{arith}
 use native.Mathlib.Nat.{add-zero, add-suc, suc-add}
 use native.Mathlib.Numerals.{add-one}
 use lib.ListN.{length, get_or, take, drop, set, drop_of_length-le}
-use lib.Seq.{sets, sets-eq, set_comm, drop-cons, paste, length-take-le, take_all}
-use borrow.Rule.Slice.PartMut.{put_mid}
-use Rattle.std.proofs.lemmas.Slice.{put_mid-paste}
+use lib.Seq.{sets, sets-eq, set_comm, drop-cons, paste, length-take-le}
 
 -- the last store may come first
 pub sets_snoc : (xs d : List ℕ) (at c : ℕ) → sets (set d (at + length xs) c) at xs ≡ sets d at (xs ++ (c ∷ []))
@@ -36,8 +34,3 @@ paste_sets d at w n h k =
     let e = length-take-le n w h in
     let j : at + length (take n w) ≡ at + n = omega arith in
     sym (sets-eq (take n w) d at (omega arith) ∙ rw j)
-
--- and so is a part of a list that is written whole
-pub put_sets : {A : Type 0} (at k : ℕ) (d ys w : List A) → ys ≡ w → k ≡ length w → at + k ≤ length d → put_mid at k d ys ≡ sets d at w
-put_sets at k d ys w e l h =
-    put_mid-paste at k d ys w k e refl l ∙ paste_sets d at w k (omega arith) h ∙ ap (sets d at) (take_all k w (omega arith))

@@ -15,6 +15,16 @@ pub struct Parsed {
     pub next: usize,
 }
 
+// Puts eight words from place `at` on. `copy_from_slice` asks whether the two overlap, which takes 9 instructions more a line.
+fn store(dst: &mut [u32], at: usize, w: [u32; 8])
+    requires { at + 8 ≤ length dst.old }
+    ensures { dst.new ≡ sets dst.old at w }
+{
+    for k in 0..8 {
+        dst[at + k] = w[k];
+    }
+}
+
 // Puts what a line is: an event's words from place `at` on, and the line's mark. Answers how many words that is.
 fn put_line(words: &mut [u32], at: usize, marks: &mut [u8], line: usize, t: Taken) -> usize
     requires { (at + 8 ≤ length words.old) × (line < length marks.old) }
@@ -23,7 +33,7 @@ fn put_line(words: &mut [u32], at: usize, marks: &mut [u8], line: usize, t: Take
     ensures marks_after { marks.new ≡ set marks.old line (event_mark t.count) }
 {
     if t.count == 8 {
-        words[at..at + 8].copy_from_slice(&t.words);
+        store(words, at, t.words);
         marks[line] = 1;
         return 8;
     }
