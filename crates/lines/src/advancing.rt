@@ -6,7 +6,8 @@ use crate::events::run;
 use crate::kept::{Advanced, Kept};
 use crate::starting::begin;
 
-// Answers lines of `s`, as many as the lists lent have room for, into `out`. The first line of an input goes alone.
+// Answers lines of `s`, as many as the lists lent have room for, into `out`. The first line of an input goes alone. The lists are four
+// parameters and no struct: of a struct each contract would say too that it holds the same four, and `run` would lend out each again.
 pub fn advance(
     kept: Kept,
     s: &[u8],

@@ -16,7 +16,7 @@ pub struct Turned {
 }
 
 // Answers lines of the first bytes of `buf`, whole ones or, at the end of input, all, as many as the lists lent have room
-// for, into `out`; then moves what is still to be answered to the front of `buf`.
+// for, into `out`; then moves what is still to be answered to the front of `buf`. The lists are four parameters as in `advance`.
 pub fn turn(
     kept: Kept,
     buf: &mut [u8],
