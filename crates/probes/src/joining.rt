@@ -14,7 +14,7 @@ pub enum Refusal {
 }
 
 impl Refusal {
-    // The number that the paper gives it.
+    // The number that is given back.
     pub fn number(self) -> u32
         ensures { result ≡ number_for self }
     {
