@@ -41,7 +41,7 @@ fn renew_line(cells: &mut [Cell; 144], line: usize, chosen: usize, n: Count, wor
     }
 }
 
-// A state, and the tag of each of its slots, so that a search copies no pool.
+// A state that is well formed, and the tag of each of its slots, so that a search copies no pool.
 #[derive(Drop)]
 pub(crate) struct Run {
     pub(crate) state: State,

@@ -4,15 +4,15 @@ use mathlib.Core.Bool.{true, false, ◌||◌, cond as pick}
 use mathlib.Core.Path.{◌≡◌, refl, sym, ap, ◌∙◌}
 use mathlib.Core.List.{List}
 use native.Mathlib.Omega.{arith}
-use lib.ListN.{length, get_or, set}
-use borrow.Author.Tests.{eqb-true, ne_eqb}
+use lib.ListN.{get_or, set}
+use borrow.Author.Tests.{eqb-true}
 use Rattle.rules.specs.declared.refusals.Refusal.{Refusal}
-use Rattle.running.specs.Types.{Cell, Sizes, State, Event, Answer}
+use Rattle.running.specs.Types.{Cell, State, Event}
 use Rattle.rules.specs.Cells.{zero_cell}
 use Rattle.rules.specs.Kinds.{number_of}
 use Rattle.rules.specs.States.{cell_at, with_cell}
 use Rattle.rules.specs.WellFormed.{well_formed}
-use Rattle.rules.specs.Refusals.{reading, writing, wanting_read, wanting_write, slotted, sending, cell_of}
+use Rattle.rules.specs.Refusals.{reading, writing, wanting_read, slotted, sending, cell_of}
 use Rattle.rules.specs.Effects.{answer, answered, read_of, write_of, want_of, effect, step_of}
 use Rattle.parts.specs.Changes.{wanted_by, touched_cell}
 use Rattle.numbers.specs.Places.{place_of}

@@ -6,7 +6,6 @@ use mathlib.Core.Bool.{true, false}
 use mathlib.Core.Path.{◌≡◌, refl, sym, ap, ◌∙◌}
 use mathlib.Core.List.{List, [], ◌∷◌}
 use lib.ListN.{length, drop, replicate}
-use lib.Seq.{sets}
 use Rattle.running.specs.Types.{State, Event}
 use Rattle.rules.specs.WellFormed.{well_formed}
 use Rattle.rules.specs.Refusals.{refusal, table, given}

@@ -1,11 +1,10 @@
 -- The run's loop: what is left of the events, from where the loop is, gives what the whole list gives from the start. Assumes nothing.
-use Prim.Native.Nat.{ℕ, suc, ◌+◌, ◌*◌, ◌-◌, ◌≤◌, ◌<◌}
-use mathlib.Core.Bool.{true}
-use mathlib.Core.Path.{◌≡◌, refl, sym, ap, ◌∙◌}
+use Prim.Native.Nat.{ℕ, suc, ◌+◌, ◌*◌, ◌-◌, ◌<◌}
+use mathlib.Core.Path.{◌≡◌, sym, ap, ◌∙◌}
 use mathlib.Core.List.{List, [], ◌∷◌}
 use native.Mathlib.Omega.{arith}
 use native.Mathlib.Numerals.{add-one, add-two}
-use lib.ListN.{length, take, drop, replicate, length-set}
+use lib.ListN.{take, drop, replicate}
 use lib.Seq.{sets, drop-drop, get_or-take}
 use Rattle.running.specs.Types.{State, Event, Answer, Stepped}
 use Rattle.rules.specs.Effects.{answer, step_of}

@@ -5,15 +5,15 @@ use mathlib.Core.Path.{◌≡◌, refl, sym, ap, ap₂, ◌∙◌}
 use mathlib.Core.List.{List}
 use native.Mathlib.Omega.{arith}
 use lib.Dec.{eqb, ltb}
-use lib.ListN.{get_or, set}
+use lib.ListN.{get_or}
 use native.Mathlib.Decide.{ℕ_discrete}
 use borrow.Author.Tests.{ltb-true, ltb-false, eq-eqb, ne_eqb}
 use Rattle.running.specs.Types.{Cell, MessageKind, Free, Tokens, OwnershipAck, DeletionAck, State, Event}
-use Rattle.rules.specs.Tools.{first_to, fill_to}
+use Rattle.rules.specs.Tools.{first_to}
 use Rattle.rules.specs.States.{slot_at, is_free, bears}
 use Rattle.rules.specs.WellFormed.{well_formed}
 use Rattle.rules.specs.Refusals.{free_at, lowest, copyless, backupless, lowest_free, unborne}
-use Rattle.rules.specs.Effects.{word_for, recreated_line}
+use Rattle.rules.specs.Effects.{word_for}
 use Rattle.numbers.specs.Tags.{tag_of, Tagged, first_untagged, absent}
 use Rattle.numbers.specs.Rows.{slot_sight, slot_refusal}
 use Rattle.rules.specs.Refusals.{table, given}

@@ -1,29 +1,27 @@
 -- The turns of a send. Assumes nothing.
 use Prim.Native.Nat.{ℕ, ◌≤◌, ◌<◌, ◌%◌}
-use mathlib.Core.Bool.{Bool, true, false, ◌||◌}
+use mathlib.Core.Bool.{Bool, true, ◌||◌}
 use mathlib.Core.Path.{◌≡◌, refl, sym, ap, subst, ◌∙◌}
 use mathlib.Core.List.{List}
 use native.Mathlib.Omega.{arith}
 use lib.Dec.{eqb, leb, ltb}
-use lib.ListN.{length, get_or, set, length-set}
+use lib.ListN.{get_or, set}
 use borrow.Author.Tests.{ltb-false, leb-false, eqb-true, ne_eqb}
-use Rattle.std.specs.Prelude.{Option, None, Some, Result, Ok, Err, is_none, IfSome}
+use Rattle.std.specs.Prelude.{Option, None, Some, is_none, IfSome}
 use Rattle.rules.specs.declared.refusals.Refusal.{Refusal}
-use Rattle.running.specs.Types.{Cell, Tokens, Message, Sizes, State, Event, Answer}
+use Rattle.running.specs.Types.{Cell, Tokens, Message, Sizes, State, Event}
 use Rattle.rules.specs.Cells.{zero_cell}
 use Rattle.rules.specs.Kinds.{number_of}
 use Rattle.rules.specs.States.{serial_at, with_cell, with_slot}
-use Rattle.rules.specs.WellFormed.{well_formed}
 use Rattle.rules.specs.Refusals.{refusal, table, table_of, given, sending, cell_of, lowest_free}
 use Rattle.rules.specs.Effects.{answer, sent_cell, sent_message, send_of, effect, step_of}
 use Rattle.parts.specs.Changes.{cut}
 use Rattle.numbers.specs.Places.{row_of, place_of}
 use Rattle.numbers.specs.Rows.{send_refusal}
-use Rattle.numbers.specs.Tags.{tag_of, slot_in, Tagged, first_untagged}
+use Rattle.numbers.specs.Tags.{tag_of, slot_in, first_untagged}
 use Rattle.running.specs.Steps.{stepped}
 use Rattle.rules.proofs.Laws.Bools.{split, or_left}
 use Rattle.rules.proofs.Laws.Rows.{Clear}
-use Rattle.rules.proofs.Laws.Views.{Sized}
 use Rattle.rules.proofs.Keeps.Accepted.{accepted, Sends, sends}
 use Rattle.rules.proofs.Keeps.Numbers.{step_effect}
 use Rattle.rules.proofs.Keeps.Well.{well_sizes, well_count}

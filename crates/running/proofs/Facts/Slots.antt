@@ -5,10 +5,10 @@ use mathlib.Core.Path.{◌≡◌, refl, sym, ap, ◌∙◌}
 use mathlib.Core.List.{List}
 use native.Mathlib.Omega.{arith}
 use lib.Dec.{eqb}
-use lib.ListN.{length, get_or, set, length-set}
+use lib.ListN.{get_or, set}
 use borrow.Author.Tests.{eqb-true, lt-ltb}
 use Rattle.rules.specs.declared.refusals.Refusal.{Refusal}
-use Rattle.running.specs.Types.{Cell, MessageKind, Free, Tokens, OwnershipAck, DeletionAck, Message, Sizes, State, Event, Answer, Arrival, Stepped}
+use Rattle.running.specs.Types.{Cell, MessageKind, Free, Tokens, OwnershipAck, DeletionAck, Message, State, Event, Arrival, Stepped}
 use Rattle.rules.specs.Cells.{zero_cell}
 use Rattle.rules.specs.Kinds.{number_of}
 use Rattle.rules.specs.States.{free_message, cell_at, slot_at, serial_at, with_cell, with_slot}

@@ -9,12 +9,11 @@ use lib.ListN.{get_or, set}
 use lib.Seq.{get_or-set_other}
 use borrow.Author.Tests.{ltb-true, eqb-true}
 use Rattle.rules.specs.declared.refusals.Refusal.{Refusal}
-use Rattle.running.specs.Types.{Serial, Cell, Tokens, Sizes, State, Event}
+use Rattle.running.specs.Types.{Serial, Cell, Tokens, State, Event}
 use Rattle.rules.specs.Kinds.{number_of}
 use Rattle.rules.specs.Tools.{fill_to}
 use Rattle.rules.specs.Cells.{zero_cell}
-use Rattle.rules.specs.States.{cell_at, serial_at, with_cells, with_serial}
-use Rattle.rules.specs.WellFormed.{well_formed}
+use Rattle.rules.specs.States.{cell_at, serial_at, with_serial}
 use Rattle.rules.specs.Refusals.{refusal, table, table_of, given, timeout, lost_token, lost_data, slotted, sending, cell_of, next, unborne}
 use Rattle.rules.specs.Effects.{answer, word_for, after_recreation, recreated_line, recreate_of, step_of}
 use Rattle.numbers.specs.Places.{row_of, place_of}

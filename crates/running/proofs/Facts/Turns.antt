@@ -1,7 +1,7 @@
 -- A turn: what a method of the run leaves is what the step of the event leaves. Assumes nothing.
 use Prim.Native.Nat.{ℕ, ◌<◌}
 use mathlib.Core.Bool.{true}
-use mathlib.Core.Path.{◌≡◌, refl, sym, ap, ◌∙◌}
+use mathlib.Core.Path.{◌≡◌, sym, ap, ◌∙◌}
 use mathlib.Core.List.{List}
 use native.Mathlib.Omega.{arith}
 use native.Mathlib.Decide.{ℕ_discrete}
@@ -10,16 +10,16 @@ use lib.Seq.{get_or-set_same, get_or-set_other}
 use mathlib.Core.Logic.{◌≢◌}
 use borrow.Author.Tests.{ne_eqb}
 use Rattle.rules.specs.declared.refusals.Refusal.{Refusal}
-use Rattle.rules.specs.declared.refusals.Refusal.TheVariants.{IllFormed, Unknown, NoLine, NoNode, Memory, NoMessage, ToItself, WrongAmount, WrongOwner, Blocked, NotValid, NoFreeSlot, NotAble, WantsAlready, AbleAlready, NoCause, NextSerialBorne, NothingLeft, WrongSize, UnevenWords, NoRoom, BackupElsewhere}
 use Rattle.running.specs.declared.steps.Run.{Run}
-use Rattle.running.specs.Types.{Message, State, Event, Answer}
+use Rattle.running.specs.Types.{Message, State, Event, Answer, Stepped}
 use Rattle.rules.specs.States.{free_message}
 use Rattle.rules.specs.Kinds.{number_of}
 use Rattle.rules.specs.WellFormed.{well_formed}
 use Rattle.rules.specs.Refusals.{refusal}
 use Rattle.rules.specs.Effects.{answer, step_of}
 use Rattle.numbers.specs.Tags.{slot_tag, Tagged}
-use Rattle.running.specs.Steps.{stepped}
+use Rattle.running.specs.Steps.{said, stepped}
+use Rattle.std.specs.Prelude.{Result, Ok, Err, IsErrAnd}
 use Rattle.rules.proofs.Laws.Views.{Sized}
 use Rattle.rules.proofs.Keeps.Numbers.{step_refused}
 use Rattle.rules.proofs.Keeps.Steps.{step_keeps_well_formed}
@@ -63,3 +63,8 @@ number_some why h = grind arith
 -- a refusal leaves all as it was
 pub refused : (t : State) (e : Event) (why : Refusal) → refusal t e ≡ number_of why → step_of t e ≡ stepped t (answer (number_of why) 0 64)
 refused t e why h = step_refused t e (rw h (ne_eqb (number_of why) 0 (number_some why))) ∙ rw h
+
+-- what a `?` gives back
+pub told : (r : Result Answer Refusal) (why : Refusal) {t : State} {u : Stepped} → IsErrAnd r (λ given. given ≡ why) → u ≡ stepped t (answer (number_of why) 0 64) → u ≡ stepped t (said r)
+told (Ok a) why {t} h g = absurd h
+told (Err given) why {t} h g = g ∙ ap (λ why. stepped t (answer (number_of why) 0 64)) (sym h)

@@ -1,4 +1,3 @@
-use lib.Dec.{eqb}
 use mathlib.Core.Path.{◌≡◌}
 use Prim.Native.Nat.{◌*◌}
 use Rattle.rules.specs.Tools.{fill_to}
