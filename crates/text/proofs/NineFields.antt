@@ -101,9 +101,6 @@ module _ (s : List ℕ) (from : ℕ) (r : Number) (f : Found s from r) where
       rw (line_at, first_here s r.end k n, b) (numbers_tab f.run.text r.value f.run.all f.value _) in
       rw (e, gone ∙ passed_more s r.end k n, ← taken_is s (r.end + 1)) (sym (field_is r.value _ _))
 
-  pub tab_within : r.after ≡ 9 → r.end < length s
-  tab_within e = (tab_in s r.end (sym f.after ∙ e)).0
-
   -- eight numbers are there
   module _ (e : r.after ≡ 9) (t : Taken) (h : t ≡ taken_at s (r.end + 1)) where
     nine_tab : with_field r.value t ≡ nine_at s from

@@ -2,7 +2,7 @@
 ghost use Rattle.std.specs.Prelude.{◌+◌, ◌<◌, ◌≤◌, ◌≡◌, length, IfSome, MatchOption};
 ghost use Rattle.text.specs.Parts.{Runs, Unreadable, Found, Short, one_digit};
 
-// Digits: what they spell, the place past them, and the byte there; at the end of input a line feed.
+// Digits: what they spell, the place past them, and the byte there; at the end of input a line feed, since that ends a line too.
 #[derive(Clone, Copy)]
 struct Run {
     pub value: u64,
@@ -10,7 +10,7 @@ struct Run {
     pub after: u8,
 }
 
-// A number, the place past its digits, and the byte there; at the end of input a line feed.
+// A number, the place past its digits, and the byte there; at the end of input a line feed, since that ends a line too.
 #[derive(Clone, Copy)]
 pub(crate) struct Number {
     pub value: u32,
