@@ -16,8 +16,8 @@ pub struct Turned {
 }
 
 // Answers lines of the first bytes of `buf`, whole ones or, at the end of input, all, as many as the lists lent have room
-// for, into `out`; then moves what is still to be answered to the front of `buf`. The lists are four parameters as in `advance`. `held` stands beside `buf`,
-// since a caller may give any number: a part `buf[..held]` would ask more of it.
+// for, into `out`; then moves what is still to be answered to the front of `buf`. The lists are four parameters as in `advance`.
+// `held` stands beside `buf`, since a caller may give any number: a part `buf[..held]` would ask more of it.
 pub fn turn(
     kept: Kept,
     buf: &mut [u8],
