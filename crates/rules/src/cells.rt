@@ -8,7 +8,8 @@ pub enum Want {
     Write,
 }
 
-// `word` is the data word, `saved` the backup word.
+// `word` is the data word, `saved` the backup word. Each stands beside its mark, and is no Option of it: a step takes cells in which
+// the two do not agree, and answers 1 (`well_formed`).
 #[derive(Clone, Copy)]
 pub struct Cell {
     pub tokens: Count,

@@ -9,7 +9,8 @@ use crate::refusals::Refusal;
 use crate::states::State;
 
 // The eight words of an event record. `amount` is the amount of a send and the slot of a delivery or a drop;
-// `owner` and `full` are the owner mark and the data mark.
+// `owner` and `full` are the owner mark and the data mark. Kind and marks are numbers, not enums: a step takes every record, and answers
+// 2 to one with no such kind or mark (`step`).
 #[derive(Clone, Copy)]
 pub struct Event {
     pub kind: u32,
@@ -22,6 +23,7 @@ pub struct Event {
     pub word: u32,
 }
 
+// Number, word and slot as they are given back (`step`, `batch`); the names of the numbers are in `Refusal`.
 #[derive(Clone, Copy)]
 pub struct Answer {
     pub number: u32,
@@ -42,7 +44,7 @@ impl Answer {
     }
 }
 
-// What a delivery leaves: the cell that the message is for, the kind of the reply that stands in the slot (free: none), the answer.
+// What a delivery leaves: the cell that the message is for, the kind of what then stands in the slot (free: nothing), the answer.
 #[derive(Clone, Copy)]
 pub struct Arrival {
     pub cell: Cell,
@@ -56,6 +58,7 @@ pub struct Stepped {
     pub answer: Answer,
 }
 
+// What a batch gives back: 0 or a number of `Refusal`, with the state on a refusal too, so it is no Result.
 #[derive(Clone, Copy)]
 pub struct Batched {
     pub number: u32,

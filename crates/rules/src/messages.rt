@@ -1,7 +1,8 @@
 // What stands in one slot of the pool.
 use crate::numbers::{Count, Serial};
 
-// Free is the kind of an empty slot.
+// Free is the kind of an empty slot, which keeps its other fields: a step takes free slots that are not zero, and answers 1
+// (`well_formed`). So a slot is no Option of a message.
 #[derive(Clone, Copy, PartialEq, Eq)]
 pub enum MessageKind {
     Free,
@@ -10,7 +11,7 @@ pub enum MessageKind {
     DeletionAck,
 }
 
-// `full` is the data mark.
+// `full` is the data mark; `word` stands beside it for the same reason.
 #[derive(Clone, Copy)]
 pub struct Message {
     pub kind: MessageKind,

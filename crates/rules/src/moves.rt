@@ -112,14 +112,12 @@ impl Cell {
         self
     }
 
-    #[tactic(auto, unfolding(crate::specs::Cells::able_to_read))]
     pub fn able_to_read(self) -> bool
         ensures { result ≡ able_to_read self }
     {
         (0 < self.tokens.0) & self.valid
     }
 
-    #[tactic(auto, unfolding(crate::specs::Cells::able_to_write))]
     pub fn able_to_write(self, n: Count) -> bool
         ensures { result ≡ able_to_write n.0 self }
     {
@@ -138,7 +136,6 @@ impl Cell {
     }
 
     // The want ends if the cell can do what it wants.
-    #[tactic(auto, unfolding(crate::specs::Cells::want_after))]
     fn want_left(self, n: Count) -> Want
         ensures { result ≡ want_after n.0 self }
     {
