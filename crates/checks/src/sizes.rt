@@ -6,7 +6,7 @@ ghost use Rattle.rules.specs.WellFormed.{sizes_fine, serial_fine};
 use rules::numbers::Serial;
 use rules::states::Sizes;
 
-// The sizes are in range.
+// The sizes are in range; numbers as a start gets them, since these may not fit the bytes of `Sizes`.
 #[tactic(auto, unfolding(rules::specs::WellFormed::sizes_fine, rules::specs::Tools::every))]
 pub fn sizes_fine(caches: u32, lines: u32, tokens: u32) -> bool
     ensures { result ≡ sizes_fine (sizesOf caches lines tokens) }

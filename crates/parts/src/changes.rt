@@ -14,6 +14,7 @@ use rules::kinds::Kind;
 use rules::messages::{Message, MessageKind};
 use rules::numbers::{Count, Serial};
 
+// Slot 64 is none: so answers are given back.
 pub fn answer(number: u32, word: u32, slot: u32) -> Answer
     ensures { result ≡ answer_of number word slot }
 {
@@ -89,7 +90,7 @@ fn discarded(x: Cell) -> Arrival
     }
 }
 
-// What a message that is taken leaves: the cell, and the reply in the slot, if there is one.
+// What a message that is taken leaves: the cell, and the kind that then stands in the slot (free: no reply, as the rules have it).
 fn taken(cell: Cell, reply: MessageKind, slot: u32) -> Arrival
     ensures { result ≡ arrival_of cell reply (answer_of 0 1 slot) }
 {

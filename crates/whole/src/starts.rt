@@ -18,6 +18,7 @@ fn memory_cell(n: Count) -> Cell
 }
 
 // 144 times the empty cell, then the memory's cell of each line.
+#[tactic(auto, using(crate::proofs::Facts::Fresh::fresh_none, crate::proofs::Facts::Fresh::fresh_more))]
 fn fresh_cells(z: Sizes) -> [Cell; 144]
     requires { (z.caches ≤ 8) × (z.lines ≤ 16) }
     ensures { result ≡ fresh_cells z.lines z.caches z.total.0 }

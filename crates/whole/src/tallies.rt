@@ -13,6 +13,7 @@ use rules::messages::Message;
 use rules::numbers::{Count, Serial};
 use rules::states::{Sizes, State};
 
+#[tactic(auto, using(rules::proofs::Facts::Loops::all_none, rules::proofs::Facts::Loops::all_more), unfolding(rules::specs::States::serial_at))]
 fn serials_fine(s: &State) -> bool
     ensures { result ≡ all_to 16 (serial_fine_at s.now) }
 {
@@ -103,6 +104,7 @@ fn sums_fine(n: Count, sums: &[u32; 16]) -> bool
 }
 
 // The tokens of each line, if all cells and all messages are fine.
+#[tactic(auto, using(crate::proofs::Facts::Checked::tallied))]
 fn tally(s: &State) -> Option<[u32; 16]>
     ensures { MatchOption result (parts_fine s.now ≡ false) (Tallied s.now) }
 {
@@ -111,6 +113,7 @@ fn tally(s: &State) -> Option<[u32; 16]>
 }
 
 // Whether a state is well formed, for every state that the types can hold.
+#[tactic(auto, using(crate::proofs::Facts::Checked::some_checked, crate::proofs::Facts::Checked::none_checked))]
 pub fn well_formed(s: State) -> bool
     ensures { result ≡ well_formed s }
 {
