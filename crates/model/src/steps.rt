@@ -10,7 +10,7 @@ use rules::refusals::Refusal;
 use rules::states::State;
 use running::run;
 
-// One step, of any state and any event record.
+// One step, of any state and any event record: a run of its one event, so that a step and a batch go the same way.
 pub fn step(s: State, e: Event) -> Stepped
     ensures { result ≡ step_of s e }
 {

@@ -9,7 +9,7 @@ use crate::steps::Run;
 use rules::events::{Answer, Event};
 use rules::states::State;
 
-// The event record in eight words.
+// The event record in eight words: each field stands beside its word, which a From would not say more plainly.
 fn decode(w: &[u32]) -> Event
     requires { 8 ≤ length w.now }
     ensures { result ≡ event_of w.now }
