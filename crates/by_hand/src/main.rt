@@ -5,6 +5,7 @@
 use rules::cells::{Cell, Want};
 use rules::empties::empty_cell;
 use rules::events::{Answer, Event};
+use rules::kinds::Kind;
 use rules::numbers::Count;
 use rules::states::State;
 
@@ -21,9 +22,9 @@ fn cell(tokens: u8, mark: bool, backup: bool, want: Want, word: u32) -> Cell {
     }
 }
 
-fn event(kind: u32, node: u32) -> Event {
+fn event(kind: Kind, node: u32) -> Event {
     Event {
-        kind,
+        kind: kind as u32,
         line: 0,
         node,
         other: 0,
@@ -61,7 +62,7 @@ fn said(rt: &impl Print, s: State, e: Event) {
 fn then_read(rt: &impl Print, s: State, e: Event) {
     let r = model::step(s, e);
     show(rt, r.answer);
-    said(rt, r.state, event(0, e.node));
+    said(rt, r.state, event(Kind::Read, e.node));
 }
 
 // A cache that wants to read and has only a backup, of this word.
@@ -91,13 +92,13 @@ fn steps(rt: &impl Print) {
     said(
         rt,
         with_two(cell(3, true, false, Want::Nothing, 7), none),
-        event(0, 0),
+        event(Kind::Read, 0),
     );
     // four tokens where N is three: not well formed
     said(
         rt,
         with_two(cell(4, true, false, Want::Nothing, 7), none),
-        event(0, 0),
+        event(Kind::Read, 0),
     );
     // three tokens in the cache and one in the memory: no cell has too many, but the line has
     said(
@@ -106,13 +107,13 @@ fn steps(rt: &impl Print) {
             cell(3, true, false, Want::Nothing, 7),
             cell(1, false, false, Want::Nothing, 0),
         ),
-        event(0, 0),
+        event(Kind::Read, 0),
     );
     // the memory has a want: not well formed
     said(
         rt,
         with_two(cell(3, true, false, Want::Nothing, 7), waiting),
-        event(0, 0),
+        event(Kind::Read, 0),
     );
 }
 
@@ -122,16 +123,21 @@ fn backups(rt: &impl Print) {
     let waiting = cell(0, false, false, Want::Read, 0);
     let memory = cell(0, false, true, Want::Nothing, 9);
     // cache 0 wants to read and only the memory has a backup: 23; the memory's own timeout is done
-    said(rt, with_two(waiting, memory), event(7, 0));
-    said(rt, with_two(waiting, memory), event(8, 2));
+    said(rt, with_two(waiting, memory), event(Kind::LostToken, 0));
+    said(rt, with_two(waiting, memory), event(Kind::LostData, 2));
     // two backups, and cache 0 has neither: 23
-    said(rt, with_three(waiting, backed(8), memory), event(7, 0));
+    said(
+        rt,
+        with_three(waiting, backed(8), memory),
+        event(Kind::LostToken, 0),
+    );
     // three backups: the node that is named uses its own, and its read gives that word
-    then_read(rt, with_three(backed(7), backed(8), memory), event(7, 0));
-    then_read(rt, with_three(backed(7), backed(8), memory), event(7, 1));
-    then_read(rt, with_three(backed(7), backed(8), memory), event(8, 1));
+    let three = with_three(backed(7), backed(8), memory);
+    then_read(rt, three, event(Kind::LostToken, 0));
+    then_read(rt, three, event(Kind::LostToken, 1));
+    then_read(rt, three, event(Kind::LostData, 1));
     // no owner, no valid cell and no backup on the line: 18
-    said(rt, with_two(waiting, none), event(7, 0));
+    said(rt, with_two(waiting, none), event(Kind::LostToken, 0));
 }
 
 fn main(rt: HostRuntime) {

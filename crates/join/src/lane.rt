@@ -12,7 +12,8 @@ enum End {
 }
 
 // The file and its name, the bytes that are held, the words that are to be joined, the last time, how many lines were read, and
-// how the file ends, once that is known. A part of a file is at most 1,024 records.
+// how the file ends, once that is known. A part of a file is at most 1,024 records. There is no heap, so `held` and `count` stand
+// beside their lists.
 #[derive(Drop)]
 pub(crate) struct Lane<'a, R> {
     input: R,

@@ -48,7 +48,7 @@ fn accept(numbers: Option<[u32; 9]>, last: u32) -> Result<[u32; 9], LineRefusal>
     Ok(record)
 }
 
-// Puts nine words from place `at` on.
+// Puts nine words from place `at` on. Private, as `store` of `text` is for eight: a public one of both would test for room at each line.
 fn store(dst: &mut [u32], at: usize, w: [u32; 9])
     requires { at + 9 ≤ length dst.old }
     ensures { dst.new ≡ sets dst.old at w }

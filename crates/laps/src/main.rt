@@ -4,24 +4,25 @@
 
 #![tactic(auto)]
 
+use rules::kinds::Kind;
 use std::io::Read;
 
 // The words of an event.
-fn event(kind: u32, line: u32, node: u32, other: u32) -> [u32; 8] {
-    let amount = if kind == 2 { 5 } else { 0 };
-    [kind, line, node, other, amount, 1, 1, line]
+fn event(kind: Kind, line: u32, node: u32, other: u32) -> [u32; 8] {
+    let amount = if kind == Kind::Send { 5 } else { 0 };
+    [kind as u32, line, node, other, amount, 1, 1, line]
 }
 
 // The events of one line in a lap. A hand-over is the send, and the deliveries of its message and of the two acknowledgments.
 fn line_events(line: u32) -> [[u32; 8]; 9] {
-    let deliver = event(3, line, 0, 0);
+    let deliver = event(Kind::Deliver, line, 0, 0);
     [
-        event(2, line, 4, 0),
+        event(Kind::Send, line, 4, 0),
         deliver,
         deliver,
         deliver,
-        event(1, line, 0, 0),
-        event(2, line, 0, 4),
+        event(Kind::Write, line, 0, 0),
+        event(Kind::Send, line, 0, 4),
         deliver,
         deliver,
         deliver,

@@ -9,7 +9,8 @@ use std::io::{Read, Write};
 use streams::{Failure, MOST, open, read_more, send, tell, word};
 use trace::Kept;
 
-// What goes from turn to turn: what is kept, how many bytes are held at the front of `buf`, and the lists that each turn is lent.
+// What goes from turn to turn: what is kept, how many bytes are held at the front of `buf` (there is no heap, so it is no vector), and
+// the lists that each turn is lent.
 // `Room` keeps the turns from going on for nothing: where no whole line is held, there is room for a read.
 #[derive(Drop)]
 struct Turns {
