@@ -22,7 +22,7 @@ impl<'a> From<Failure<'a>> for Stop<'a> {
     }
 }
 
-// The line after so many, which is refused, and why.
+// The line after so many, which is refused, and why. A file's name is bytes, so this is no `Display`.
 fn refused<E: Write>(errors: &mut E, name: &[u8], lines: u64, why: LineRefusal) {
     let words = match why {
         LineRefusal::Unreadable => "line not readable",
