@@ -35,7 +35,7 @@ fn event(kind: Kind, node: u32) -> Event {
     }
 }
 
-// Number, word and slot with spaces between, and a line feed. `Answer` is another crate's type, so no `Display` is given to it here.
+// Number, word and slot with spaces between, and a line feed. No `Display` of `Answer`: only this program prints one so.
 fn show(rt: &impl Print, a: Answer) {
     let _ = println!(rt; "{} {} {}", a.number, a.word, a.slot);
 }

@@ -14,6 +14,7 @@ use running::run;
 pub fn step(s: State, e: Event) -> Stepped
     ensures { result ≡ step_of s e }
 {
+    // `run` takes words: no `From`, which would be told of here alone
     let words = [
         e.kind, e.line, e.node, e.other, e.amount, e.owner, e.full, e.word,
     ];

@@ -1,4 +1,5 @@
-// The reasons for which an event is refused that show in the parts that it names.
+// The reasons for which an event is refused that show in the parts that it names. Sizes, event and cell come as three: a caller has
+// them from three places, and no fact ties them.
 ghost use Rattle.std.specs.Prelude.{◌≡◌, ◌||◌, ◌&&◌, not, eqb, ltb, leb, is_none, IfOk, Some};
 ghost use Rattle.rules.specs.Kinds.{kind_number, number_in};
 ghost use Rattle.rules.specs.Refusals.{for_caches, wrong_amount, wrong_owner};

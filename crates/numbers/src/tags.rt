@@ -5,7 +5,8 @@ ghost use Rattle.numbers.specs.Tags.{tag_of, Tagged, slot_in, first_untagged, ab
 use rules::messages::{Message, MessageKind};
 use rules::numbers::Serial;
 
-// 0 for a free slot, else a number of its own for each line and serial.
+// 0 for a free slot, else a number of its own for each line and serial. A number and no Option of one, so that a search compares one
+// word a slot.
 pub fn tag(kind: MessageKind, line: u8, q: Serial) -> u32
     ensures { result ≡ tag_of kind line q.0 }
 {
@@ -21,7 +22,7 @@ pub fn tags_of(pool: [Message; 64]) -> [u32; 64]
     ensures { Tagged result pool }
 {
     let mut tags = [0u32; 64];
-    // not `map`, which copies each message by a call
+    // by number, since of a list that is lent out by parts a proof knows the length alone; and not `map`, which copies each message by a call
     for (i, m) in pool.iter().enumerate() {
         tags[i] = tag(m.kind, m.line, m.serial);
     }

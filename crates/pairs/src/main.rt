@@ -15,7 +15,7 @@ fn next(x: u32) -> u32 {
     y as u32
 }
 
-// From one record's time to the next: with `r`, runs of one list's records of random lengths; else 2, so that records alternate.
+// The way is the letter of the input. From one record's time to the next: with `r`, runs of one list's records of random lengths; else 2, so that records alternate.
 fn gap(way: u8, x: u32) -> u32 {
     if way != b'r' {
         return 2;

@@ -21,7 +21,7 @@ pub fn answer(number: u32, word: u32, slot: u32) -> Answer
     Answer { number, word, slot }
 }
 
-// The want after an event of the kind.
+// The want after an event of the kind, which comes as its number: `touch` takes every event.
 #[tactic(auto, unfolding(crate::specs::Changes::wanted_by))]
 fn wanted(kind: u32, want: Want) -> Want
     ensures { result ≡ wanted_by kind want }
@@ -33,7 +33,7 @@ fn wanted(kind: u32, want: Want) -> Want
     }
 }
 
-// The cell after a read, a write or a want that is accepted. No branch, so that only the word and the want are stored.
+// The cell after a read, a write or a want that is accepted: only the word and the want are stored.
 pub fn touch(e: Event, x: Cell) -> Cell
     ensures { result ≡ touched_cell e e.kind x }
 {
@@ -182,7 +182,8 @@ fn fits(x: Cell, m: Message) -> bool
     x.tokens.0.checked_add(m.tokens.0).is_some()
 }
 
-// A drop, or a message whose serial is not the line's, or one whose count does not fit.
+// A drop, or a message whose serial is not the line's, or one whose count does not fit. The kind comes as its number: `arrived` takes
+// every event.
 fn lost(kind: u32, q: Serial, x: Cell, m: Message) -> bool
     ensures { result ≡ lostOf kind q.0 x m }
 {

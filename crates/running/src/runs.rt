@@ -16,6 +16,7 @@ fn refuse_all(n: usize, answers: &mut [u32])
     requires { n * 3 ≤ length answers.old }
     ensures { answers.new ≡ sets answers.old 0 (words_of (replicate n (answer_of 1 0 64))) }
 {
+    // by number, as in `turns`
     for i in 0..n {
         put(answers, i * 3, Answer::refused(Refusal::IllFormed));
     }

@@ -35,13 +35,15 @@ fn renew_line(cells: &mut [Cell; 144], line: usize, chosen: usize, n: Count, wor
     requires { line < 16 }
     ensures { cells.new ≡ fill_to 9 (line * 9) (renewed_at n.0 word chosen cells.old line) cells.old }
 {
+    // by number: of cells that are lent out one by one a proof knows the length alone
     for node in 0..9 {
         let k = line * 9 + node;
         cells[k] = renewed(node == chosen, n, word, cells[k]);
     }
 }
 
-// A state that is well formed, and the tag of each of its slots, so that a search copies no pool.
+// A state that is well formed, and the tag of each of its slots: a list beside the pool, so that a search reads 64 numbers and not 64
+// messages of eight fields.
 #[derive(Drop)]
 pub(crate) struct Run {
     pub(crate) state: State,

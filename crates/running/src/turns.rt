@@ -45,6 +45,7 @@ pub(crate) fn turns(s: State, n: usize, events: &[u32], answers: &mut [u32]) -> 
     ensures answers { answers.new ≡ sets answers.old 0 (words_of (answers_of s (events_to n events.now))) }
 {
     let mut run = Run::new(s);
+    // by number: of answers that are lent out by threes a proof knows the length alone
     for i in 0..n {
         let at = i * 8;
         let e = decode(&events[at..at + 8]);

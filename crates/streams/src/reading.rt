@@ -30,7 +30,7 @@ fn read_once<R: Read>(input: &mut R, part: &mut [u8]) -> io::Result<usize>
 }
 
 // Reads more behind the bytes that are held, where they have no whole line: so all whole lines are used before a read can fail.
-// The caller tells of a failure, with its own name.
+// The caller tells of a failure, with its own name; it may give any number for `held`.
 pub fn read_more<R: Read>(input: &mut R, buf: &mut [u8], held: usize) -> io::Result<More>
     ensures bytes { Reads buf.old held buf.new result }
     ensures end { IfOk result (λ m. m.last ≡ true → IsAtEnd (R.remaining input.new)) }

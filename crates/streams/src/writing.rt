@@ -6,7 +6,7 @@ use std::io;
 use std::io::{ErrorKind, Write};
 
 // Writes so many bytes, or all if there are fewer, and answers whether it could, or why not. The caller tells of a failure,
-// with its own name. A write that a signal broke off is tried again. Not the library's `write_all`, which tells of a write that takes no
+// with its own name; it may give any size. A write that a signal broke off is tried again. Not the library's `write_all`, which tells of a write that takes no
 // byte in other words, and does not promise that with no byte to write it is `Ok`.
 pub fn send<W: Write>(to: &mut W, out: &[u8], size: usize) -> io::Result<()>
     ensures { Sends out.now size (is_ok result) }

@@ -1,4 +1,5 @@
-// Lines of text are read as numbers. No input or output here.
+// Lines of text are read as numbers. No input or output here. Bytes and a place in them stand as two: a caller gives any place, and is
+// told of places in the same bytes; a part `s[from..]` would ask more of it.
 #![tactic(auto)]
 
 mod chunks;

@@ -25,6 +25,7 @@ fn fresh_cells(z: Sizes) -> [Cell; 144]
 {
     let memory = memory_cell(z.total);
     let mut cells = [empty_cell(); 144];
+    // by number: of cells that are lent out by nines a proof knows the length alone
     for line in 0..z.lines {
         cells[line as usize * 9 + z.caches as usize] = memory;
     }

@@ -44,6 +44,7 @@ fn check_cells(s: &State) -> Option<[u32; 16]>
     ensures { MatchOption result (all_to 16 (line_fine s.now) ≡ false) (CellsTallied s.now) }
 {
     let mut sums = [0; 16];
+    // by number: of sums that are lent out one by one a proof knows the length alone
     for line in 0..16 {
         let k = line * 9;
         sums[line] = check_line(s.sizes, line as u8, &s.cells[k..k + 9])?;

@@ -64,6 +64,7 @@ pub fn print(dst: &mut [u8], marks: &[u8], answers: &[u32]) -> usize
     if answers.len() / 3 < n {
         return 0;
     }
+    // `a` and `at` go on by what a line has, none or three words, and so many bytes
     let mut a = 0;
     let mut at = 0;
     for &mark in marks {
