@@ -23,12 +23,18 @@ fn digits(s: &[u8], from: usize) -> Run
     ensures { Runs s.now from result }
 {
     let mut value: u64 = 0;
-    for end in from..s.len() {
-        let b = s[end];
+    let Some(rest) = s.get(from..) else {
+        return Run {
+            value,
+            end: from,
+            after: 10,
+        };
+    };
+    for (k, &b) in rest.iter().enumerate() {
         if !b.is_ascii_digit() || 1000000000 <= value {
             return Run {
                 value,
-                end,
+                end: from + k,
                 after: b,
             };
         }
@@ -36,7 +42,7 @@ fn digits(s: &[u8], from: usize) -> Run
     }
     Run {
         value,
-        end: from.max(s.len()),
+        end: s.len(),
         after: 10,
     }
 }
