@@ -68,7 +68,7 @@ passed_whole [] h = refl
 passed_whole (b ∷ s) h = rw (ne_eqb b 10 (h 0 (omega arith)), passed_whole s (λ k l. h (suc k) (omega arith)))
 
 -- what is left of an input from a place on
-rest_is : (s rest : List ℕ) (from : ℕ) → rest ≡ slice_range s from (length s) → rest ≡ drop from s
+pub rest_is : (s rest : List ℕ) (from : ℕ) → rest ≡ slice_range s from (length s) → rest ≡ drop from s
 rest_is s rest from e = let l = length-drop from s in e ∙ take_all (length s - from) (drop from s) (omega arith)
 
 pub next_found : (s rest : List ℕ) (from i : ℕ) → rest ≡ slice_range s from (length s) → i < length rest → get_or rest i 0 ≡ 10

@@ -9,7 +9,7 @@ use borrow.Author.Tests.{eqb-true, eqb-false, leb-true, leb-false, le-leb, eq-eq
 use lib.Dec.{leb, eqb}
 use lib.ListN.{length, get_or, drop, replicate}
 use Rattle.std.specs.Prelude.{Some, None}
-use Rattle.text.specs.declared.numbers.Number.{Number}
+use Rattle.text.specs.declared.numbers.Spelled.{Spelled}
 use Rattle.text.specs.declared.reading.Taken.{Taken}
 use Rattle.text.specs.declared.nines.Nine.{Nine}
 use Rattle.text.specs.Lines.{first_line, passed}
@@ -54,7 +54,7 @@ pub nine_none : (s : List ℕ) (from : ℕ) → Unreadable s from → (next : �
 unfolding nine_at nine_in nined
 nine_none s from e next h = rw (e, h)
 
-module _ (s : List ℕ) (from : ℕ) (r : Number) (f : Found s from r) where
+module _ (s : List ℕ) (from : ℕ) (r : Spelled ℕ) (f : Found s from r) where
   -- the line after the number
   abbrev after : List ℕ
   after = first_line (drop r.end s)

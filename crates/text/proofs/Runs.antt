@@ -11,7 +11,7 @@ use borrow.Author.Tests.{eqb-true, eqb-false, leb-true, leb-false}
 use lib.Dec.{eqb, leb}
 use lib.ListN.{length, get_or, drop, length-append, length-drop, get_or-append}
 use lib.Seq.{drop-cons, get_or-drop}
-use Rattle.text.specs.declared.numbers.Run.{Run}
+use Rattle.text.specs.declared.numbers.Spelled.{Spelled}
 use Rattle.text.specs.Lines.{first_line, passed}
 use Rattle.text.specs.Reading.{fields_of, is_digit, all_digits, unpadded, spelled, value_of, values_of}
 use Rattle.text.specs.Parts.{Digits, Stops, Runs, numbers, Unreadable, Found}
@@ -121,7 +121,7 @@ module _ (s : List ℕ) (from : ℕ) where
   pub unread_end : length s ≤ from → Unreadable s from
   unread_end h = no_digits s from _ _ refl refl (λ k d. absurd (omega arith))
 
-  module _ (r : Run) (g : Runs s from r) where
+  module _ (r : Spelled ℕ) (g : Runs s from r) where
     -- they end where they begin
     pub unread_none : r.end ≡ from → Unreadable s from
     unread_none z =
@@ -134,8 +134,7 @@ module _ (s : List ℕ) (from : ℕ) where
     pub unread_zero : 1 < r.end - from → get_or s from 0 ≡ 48 → Unreadable s from
     unread_zero h z = zero_led s from r.end r.value g.run h z
 
-    pub found_run : (r.end ≡ from → ⊥) → r.value ≤ 4294967295 → (1 < r.end - from → get_or s from 0 ≡ 48 → ⊥)
-        → Found s from (record { value = r.value; end = r.end; after = r.after })
+    pub found_run : (r.end ≡ from → ⊥) → r.value ≤ 4294967295 → (1 < r.end - from → get_or s from 0 ≡ 48 → ⊥) → Found s from r
     found_run e k n =
         let h : from < r.end = let l = g.run.long in omega arith in
         record {

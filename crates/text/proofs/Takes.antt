@@ -11,7 +11,7 @@ use borrow.Author.Tests.{eqb-true, eqb-false, leb-true, leb-false, le-leb, lt-le
 use lib.Dec.{eqb, leb}
 use lib.ListN.{length, get_or, drop, set, replicate}
 use lib.Seq.{sets}
-use Rattle.text.specs.declared.numbers.Number.{Number}
+use Rattle.text.specs.declared.numbers.Spelled.{Spelled}
 use Rattle.text.specs.declared.reading.Taken.{Taken}
 use Rattle.text.specs.Lines.{first_line, passed}
 use Rattle.text.specs.Reading.{is_digit, value_of, both, numbers_of, unread, packed, taken_at}
@@ -105,7 +105,7 @@ pub left_none : (s : List ℕ) (from i count : ℕ) (words : List ℕ) → Left 
 unfolding with_rest
 left_none s from i count words left e = rw e at left.line
 
-module _ (s : List ℕ) (from i count : ℕ) (words : List ℕ) (left : Left s from i count words) (r : Number) (f : Found s i r) where
+module _ (s : List ℕ) (from i count : ℕ) (words : List ℕ) (left : Left s from i count words) (r : Spelled ℕ) (f : Found s i r) where
   -- the line after the number
   abbrev after : List ℕ
   after = first_line (drop r.end s)

@@ -1,8 +1,7 @@
 -- What the private functions state. Assumes nothing.
 use Rattle.std.specs.Prelude.{ℕ, zero, suc, ◌+◌, ◌-◌, ◌*◌, ◌%◌, ◌<◌, ◌≤◌, ◌≡◌, Bool, true, cond as pick, ◌&&◌, List, [], ◌++◌, eqb, length, get_or, drop, set, replicate}
 use Rattle.std.proofs.Math.Option.{Option, none, some}
-use Rattle.text.specs.declared.numbers.Run.{Run}
-use Rattle.text.specs.declared.numbers.Number.{Number}
+use Rattle.text.specs.declared.numbers.Spelled.{Spelled}
 use Rattle.text.specs.declared.reading.Taken.{Taken}
 use Rattle.text.specs.Lines.{first_line, passed}
 use Rattle.text.specs.Reading.{fields_of, is_digit, all_digits, spelled, value_of, values_of, unread}
@@ -20,7 +19,7 @@ abbrev pub Stops : List ℕ → ℕ → ℕ → Type 0
 Stops s end v = end < length s → is_digit (get_or s end 0) ≡ true → 1000000000 ≤ v
 
 -- digits up to a place where they stop
-pub record Runs (s : List ℕ) (from : ℕ) (r : Run) : Type 0 where
+pub record Runs (s : List ℕ) (from : ℕ) (r : Spelled ℕ) : Type 0 where
   pub run : Digits s from r.end r.value
   pub small : r.value < 10000000000
   pub after : r.after ≡ get_or s r.end 10
@@ -35,7 +34,7 @@ abbrev pub Unreadable : List ℕ → ℕ → Type 0
 Unreadable s from = numbers (first_line (drop from s)) ≡ none
 
 -- a number stands at a place
-pub record Found (s : List ℕ) (from : ℕ) (r : Number) : Type 0 where
+pub record Found (s : List ℕ) (from : ℕ) (r : Spelled ℕ) : Type 0 where
   pub run : Digits s from r.end r.value
   pub far : from < r.end
   pub value : value_of run.text ≡ some r.value

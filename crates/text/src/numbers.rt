@@ -2,47 +2,45 @@
 ghost use Rattle.std.specs.Prelude.{◌+◌, ◌<◌, ◌≤◌, ◌≡◌, length, IfSome, MatchOption};
 ghost use Rattle.text.specs.Parts.{Runs, Unreadable, Found, Short, one_digit};
 
-// Digits: what they spell, the place past them, and the byte there; at the end of input a line feed, since that ends a line too.
+// What digits spell, the place past them, and the byte there; at the end of input a line feed, since that ends a line too.
 #[derive(Clone, Copy)]
-struct Run {
-    pub value: u64,
-    pub end: usize,
-    pub after: u8,
-}
-
-// A number, the place past its digits, and the byte there; at the end of input a line feed, since that ends a line too.
-#[derive(Clone, Copy)]
-pub(crate) struct Number {
-    pub value: u32,
+pub(crate) struct Spelled<V> {
+    pub value: V,
     pub end: usize,
     pub after: u8,
 }
 
 // The digits from a place on. It stops once the value has ten digits, so that the value cannot wrap.
-fn digits(s: &[u8], from: usize) -> Run
+fn digits(s: &[u8], from: usize) -> Spelled<u64>
     ensures { Runs s.now from result }
 {
     let mut value: u64 = 0;
-    for end in from..s.len() {
-        let b = s[end];
+    let Some(rest) = s.get(from..) else {
+        return Spelled {
+            value,
+            end: from,
+            after: 10,
+        };
+    };
+    for (k, &b) in rest.iter().enumerate() {
         if !b.is_ascii_digit() || 1000000000 <= value {
-            return Run {
+            return Spelled {
                 value,
-                end,
+                end: from + k,
                 after: b,
             };
         }
         value = value * 10 + (b - 48) as u64;
     }
-    Run {
+    Spelled {
         value,
-        end: from.max(s.len()),
+        end: s.len(),
         after: 10,
     }
 }
 
 // The number of the field at a place, if it is readable.
-pub(crate) fn field(s: &[u8], from: usize) -> Option<Number>
+pub(crate) fn field(s: &[u8], from: usize) -> Option<Spelled<u32>>
     ensures { MatchOption result (Unreadable s.now from) (Found s.now from) }
 {
     let d = digits(s, from);
@@ -56,7 +54,7 @@ pub(crate) fn field(s: &[u8], from: usize) -> Option<Number>
     if d.end - from > 1 && s[from] == 48 {
         return None;
     }
-    Some(Number {
+    Some(Spelled {
         value: d.value as u32,
         end: d.end,
         after: d.after,
