@@ -1,6 +1,7 @@
 // What one node holds of one line.
 use crate::numbers::Count;
 
+// A want is no Option of an access, since the rules (`served`, `want_after`) and all theorems are stated over the three.
 #[derive(Clone, Copy, PartialEq, Eq)]
 pub enum Want {
     Nothing,
