@@ -3,6 +3,7 @@ ghost use Rattle.std.specs.Prelude.{◌≡◌};
 ghost use Rattle.rules.specs.WellFormed.{cell_zero, cell_rules, cell_fine};
 
 use rules::cells::Cell;
+use rules::empties::empty_cell;
 use rules::numbers::Count;
 use rules::states::Sizes;
 
@@ -10,14 +11,7 @@ use rules::states::Sizes;
 fn cell_zero(c: Cell) -> bool
     ensures { result ≡ cell_zero c }
 {
-    (c.tokens.0 == 0)
-        & !c.valid
-        & !c.owner
-        & !c.blocked
-        & !c.backup
-        & c.want.is_nothing()
-        & (c.word == 0)
-        & (c.saved == 0)
+    c == empty_cell()
 }
 
 #[tactic(auto, unfolding(rules::specs::WellFormed::cell_rules, rules::specs::Tools::every))]

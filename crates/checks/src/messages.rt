@@ -1,23 +1,10 @@
 // The rules of a slot's message.
 ghost use Rattle.std.specs.Prelude.{◌≡◌};
-ghost use Rattle.rules.specs.WellFormed.{message_zero, address_fine, tokens_fine, ack_fine, message_fine};
+ghost use Rattle.rules.specs.WellFormed.{address_fine, tokens_fine, ack_fine, message_fine};
 
+use rules::empties::free_message;
 use rules::messages::{Message, MessageKind};
 use rules::states::Sizes;
-
-#[tactic(auto, unfolding(rules::specs::WellFormed::message_zero, rules::specs::Tools::every))]
-fn message_zero(m: Message) -> bool
-    ensures { result ≡ message_zero m }
-{
-    (m.line == 0)
-        & (m.source == 0)
-        & (m.destination == 0)
-        & (m.serial.0 == 0)
-        & (m.tokens.0 == 0)
-        & !m.owner
-        & !m.full
-        & (m.word == 0)
-}
 
 fn address_fine(z: Sizes, m: Message) -> bool
     ensures { result ≡ address_fine z m }
@@ -48,7 +35,7 @@ pub fn message_fine(z: Sizes, m: Message) -> bool
     ensures { result ≡ message_fine z m m.kind }
 {
     match m.kind {
-        MessageKind::Free => message_zero(m),
+        MessageKind::Free => m == free_message(),
         MessageKind::Tokens => address_fine(z, m) & tokens_fine(z, m),
         MessageKind::OwnershipAck | MessageKind::DeletionAck => address_fine(z, m) & ack_fine(m),
     }

@@ -1,6 +1,7 @@
 // What one node holds of one line.
 use crate::numbers::Count;
 
+// A want is no Option of an access, since the rules (`served`, `want_after`) and all theorems are stated over the three.
 #[derive(Clone, Copy, PartialEq, Eq)]
 pub enum Want {
     Nothing,
@@ -10,7 +11,7 @@ pub enum Want {
 
 // `word` is the data word, `saved` the backup word. Each stands beside its mark, and is no Option of it: a step takes cells in which
 // the two do not agree, and answers 1 (`well_formed`).
-#[derive(Clone, Copy)]
+#[derive(Clone, Copy, PartialEq, Eq)]
 pub struct Cell {
     pub tokens: Count,
     pub valid: bool,

@@ -23,7 +23,8 @@ pub struct Event {
     pub word: u32,
 }
 
-// Number, word and slot as they are given back (`step`, `batch`); the names of the numbers are in `Refusal`.
+// Number, word and slot as they are given back (`step`, `batch`); the names of the numbers that the model gives are in `Refusal` (22 is
+// the program's own, in `lines`).
 #[derive(Clone, Copy)]
 pub struct Answer {
     pub number: u32,
@@ -45,6 +46,7 @@ impl Answer {
 }
 
 // What a delivery leaves: the cell that the message is for, the kind of what then stands in the slot (free: nothing), the answer.
+// The reply is a kind and no Option, as the rules say what then stands in the slot (`reply_of`).
 #[derive(Clone, Copy)]
 pub struct Arrival {
     pub cell: Cell,
@@ -58,7 +60,8 @@ pub struct Stepped {
     pub answer: Answer,
 }
 
-// What a batch gives back: 0 or a number of `Refusal`, with the state on a refusal too, so it is no Result.
+// What a batch gives back: 0 or a number of `Refusal`, with the state on a refusal too. It is no Result, as `batch_of` of the rules and
+// the theorems are stated over it.
 #[derive(Clone, Copy)]
 pub struct Batched {
     pub number: u32,

@@ -12,7 +12,7 @@ pub enum MessageKind {
 }
 
 // `full` is the data mark; `word` stands beside it for the same reason.
-#[derive(Clone, Copy)]
+#[derive(Clone, Copy, PartialEq, Eq)]
 pub struct Message {
     pub kind: MessageKind,
     pub line: u8,
