@@ -6,6 +6,8 @@ ghost use Rattle.lanes.specs.Parts.{read_in};
 ghost use Rattle.lanes.specs.Refusals.{number_of_line};
 ghost use Rattle.lanes.specs.Steps.{accepted, filled};
 
+use std::fmt;
+
 // Why a line is refused. Each reason has the number that is told of it.
 #[derive(Clone, Copy, PartialEq, Eq, Debug)]
 pub enum LineRefusal {
@@ -21,6 +23,15 @@ impl LineRefusal {
         ensures { result ≡ number_of_line self }
     {
         self as u32
+    }
+}
+
+impl fmt::Display for LineRefusal {
+    fn fmt<W: fmt::Write>(&self, f: &mut fmt::Formatter<W>) -> fmt::Result {
+        f.write_str(match self {
+            LineRefusal::Unreadable => "line not readable",
+            LineRefusal::TimeFalls => "a time that falls",
+        })
     }
 }
 
