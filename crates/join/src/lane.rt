@@ -4,15 +4,8 @@ use lanes::LineRefusal;
 use std::io::Read;
 use streams::{Failure, read_more};
 
-// How a file ends: with its last line, or before a line that is refused.
-#[derive(Clone, Copy)]
-enum End {
-    Whole,
-    Refused(LineRefusal),
-}
-
 // The file and its name, the bytes that are held, the words that are to be joined, the last time, how many lines were read, and
-// how the file ends, once that is known. A part of a file is at most 1,024 records. There is no heap, so `held` and `count` stand
+// how the file ends, once that is known: with its last line, or before a line that is refused. A part of a file is at most 1,024 records. There is no heap, so `held` and `count` stand
 // beside their lists.
 #[derive(Drop)]
 pub(crate) struct Lane<'a, R> {
@@ -24,7 +17,7 @@ pub(crate) struct Lane<'a, R> {
     pub(crate) count: usize,
     time: u32,
     lines: u64,
-    end: Option<End>,
+    end: Option<Result<(), LineRefusal>>,
 }
 
 impl<'a, R: Read> Lane<'a, R> {
@@ -63,8 +56,8 @@ impl<'a, R: Read> Lane<'a, R> {
         // no file has as many lines as a u64 holds
         self.lines = self.lines.saturating_add((l.count / 9) as u64);
         self.end = match l.refused {
-            Some(why) => Some(End::Refused(why)),
-            None if got.last && l.held == 0 => Some(End::Whole),
+            Some(why) => Some(Err(why)),
+            None if got.last && l.held == 0 => Some(Ok(())),
             None => None,
         };
         Ok(())
@@ -79,8 +72,8 @@ impl<'a, R: Read> Lane<'a, R> {
                 break;
             }
             match self.end {
-                Some(End::Whole) => break,
-                Some(End::Refused(why)) => {
+                Some(Ok(())) => break,
+                Some(Err(why)) => {
                     return Err(Stop::Refused {
                         name: self.name,
                         lines: self.lines,

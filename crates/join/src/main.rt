@@ -47,6 +47,7 @@ impl<'a, R: Read> Join<'a, R> {
     }
 
     // Turn after turn to the end of both files, or until a line is refused, or a read or a write fails.
+    // `Turns::run` of `tokens` is alike; one loop for both would take a closure over all that a turn needs, and be no shorter.
     fn run<W: Write>(&mut self, output: &mut W) -> Result<(), Stop<'a>> {
         // a loop is known to end only where its turns are counted; no file lasts so many
         for _ in 0..u64::MAX {

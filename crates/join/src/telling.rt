@@ -24,16 +24,12 @@ impl<'a> From<Failure<'a>> for Stop<'a> {
 
 // The line after so many, which is refused, and why. A file's name is bytes, so this is no `Display`.
 fn refused<E: Write>(errors: &mut E, name: &[u8], lines: u64, why: LineRefusal) {
-    let words = match why {
-        LineRefusal::Unreadable => "line not readable",
-        LineRefusal::TimeFalls => "a time that falls",
-    };
     let _ = errors.write_all(name);
     let _ = errors.write_all(b": line ");
     if let Some(line) = lines.checked_add(1) {
         let _ = write!(errors, "{line}");
     }
-    let _ = write!(errors, ": {}: {words}\n", why.number());
+    let _ = write!(errors, ": {}: {why}\n", why.number());
 }
 
 impl Stop<'_> {

@@ -6,13 +6,15 @@ ghost use Rattle.lanes.specs.Parts.{read_in};
 ghost use Rattle.lanes.specs.Refusals.{number_of_line};
 ghost use Rattle.lanes.specs.Steps.{accepted, filled};
 
-// Why a line is refused.
+use std::fmt;
+
+// Why a line is refused. Each reason has the number that is told of it.
 #[derive(Clone, Copy, PartialEq, Eq, Debug)]
 pub enum LineRefusal {
     // it is not nine numbers
-    Unreadable,
+    Unreadable = 22,
     // its time is below the one before it
-    TimeFalls,
+    TimeFalls = 24,
 }
 
 impl LineRefusal {
@@ -20,10 +22,16 @@ impl LineRefusal {
     pub fn number(self) -> u32
         ensures { result ≡ number_of_line self }
     {
-        match self {
-            LineRefusal::Unreadable => 22,
-            LineRefusal::TimeFalls => 24,
-        }
+        self as u32
+    }
+}
+
+impl fmt::Display for LineRefusal {
+    fn fmt<W: fmt::Write>(&self, f: &mut fmt::Formatter<W>) -> fmt::Result {
+        f.write_str(match self {
+            LineRefusal::Unreadable => "line not readable",
+            LineRefusal::TimeFalls => "a time that falls",
+        })
     }
 }
 

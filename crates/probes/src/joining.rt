@@ -6,11 +6,12 @@ ghost use Rattle.probes.specs.Parts.{Merges};
 use crate::records::{put, records, time_falls};
 
 // Why a join is refused: a list whose length is no multiple of nine, a third list that cannot hold both, a time that falls.
+// Each reason has the number that is given back for it.
 #[derive(Clone, Copy, PartialEq, Eq, Debug)]
 pub enum Refusal {
-    Uneven,
-    NoRoom,
-    TimeFalls,
+    Uneven = 20,
+    NoRoom = 21,
+    TimeFalls = 24,
 }
 
 impl Refusal {
@@ -18,11 +19,7 @@ impl Refusal {
     pub fn number(self) -> u32
         ensures { result ≡ number_for self }
     {
-        match self {
-            Refusal::Uneven => 20,
-            Refusal::NoRoom => 21,
-            Refusal::TimeFalls => 24,
-        }
+        self as u32
     }
 }
 
@@ -58,6 +55,7 @@ fn merge(first: &[[u32; 9]], second: &[[u32; 9]], third: &mut [u32]) -> Taken
     let mut firsts = first;
     let mut seconds = second;
     let mut at = 0;
+    // no `for` goes over two lists of which each turn takes one of either; `at` counts words of a list that is lent
     while let [a, after_a @ ..] = firsts {
         let [b, after_b @ ..] = seconds else {
             break;
@@ -78,6 +76,7 @@ fn merge(first: &[[u32; 9]], second: &[[u32; 9]], third: &mut [u32]) -> Taken
 }
 
 // What a join gives: how many words it wrote, or why it is refused; and the rest of the list that is not used up.
+// The rest stands beside the Result, not in it, since a refused join hands back the first list too.
 #[derive(Clone, Copy)]
 pub struct Joined<'a> {
     pub count: Result<usize, Refusal>,

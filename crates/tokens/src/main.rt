@@ -75,6 +75,7 @@ impl Turns {
     }
 
     // Turn after turn to the end of input, or until a read or a write fails.
+    // `Join::run` of `join` is alike; one loop for both would take a closure over all that a turn needs, and be no shorter.
     fn run<'a, R: Read, W: Write>(
         &mut self,
         input: &mut R,
