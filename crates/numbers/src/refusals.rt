@@ -17,8 +17,8 @@ pub fn slot_refusal(tags: &[u32; 64], e: Event) -> Result<(), Refusal>
     ensures { number_in result ≡ slot_refusal tags.now e }
 {
     match tags.get(e.amount as usize) {
-        None | Some(0) => Err(Refusal::NoMessage),
-        Some(_) => Ok(()),
+        Some(tag) if *tag != 0 => Ok(()),
+        _ => Err(Refusal::NoMessage),
     }
 }
 

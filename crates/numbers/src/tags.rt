@@ -20,7 +20,12 @@ pub fn tag(kind: MessageKind, line: u8, q: Serial) -> u32
 pub fn tags_of(pool: [Message; 64]) -> [u32; 64]
     ensures { Tagged result pool }
 {
-    pool.map(|m| tag(m.kind, m.line, m.serial))
+    let mut tags = [0u32; 64];
+    // not `map`, which copies each message by a call
+    for (i, m) in pool.iter().enumerate() {
+        tags[i] = tag(m.kind, m.line, m.serial);
+    }
+    tags
 }
 
 // The lowest free slot.

@@ -1,7 +1,13 @@
 -- A recreation as the library searches a line's nine cells. Assumes nothing.
-use Rattle.std.proofs.Common.{ℕ, ◌≡◌, ◌<◌, length, List, Bool, true, false, not, ◌||◌, cond as pick, Option, None, Some, MatchOption, Bor, eqb, arith, refl, sym, lt-ltb, eq-eqb, ne_eqb}
-use Rattle.std.specs.Bool.{MatchBool}
-use Rattle.std.specs.List.{AllWithin, HoldsAt}
+use Rattle.std.proofs.Common.{ℕ, ◌≡◌, ◌<◌, length, List, Bool, true, false, not, ◌||◌, cond as pick, Option, None, Some, MatchOption, Bor, Iter, eqb, arith, refl, sym, lt-ltb, eq-eqb, ne_eqb}
+use Rattle.std.proofs.iter.Yields.{fronts}
+use Rattle.std.proofs.lemmas.Iterator.{YieldsList-from_slice, first_from_find}
+use Rattle.std.specs.Bool.{MatchBool, ⊤}
+use Rattle.std.specs.Fn.{CalledAt}
+use Rattle.std.specs.Iterator.{YieldsThen}
+use Rattle.std.specs.Slice.Iter.{iter_rest}
+use Rattle.std.specs.List.{AllWithin, FoldsTo, HoldsAt}
+use denote.Param.Members.{Mut}
 use mathlib.Core.Bool.{and-false}
 use Rattle.rules.specs.declared.cells.Cell.{Cell}
 use Rattle.rules.specs.Cells.{zero_cell}
@@ -20,6 +26,14 @@ Found nine p r =
 abbrev pub Asked : List Cell → (Cell → Bool) → Bool → Type 0
 Asked nine p r =
     MatchBool r ((i : ℕ) × (i < length nine) × HoldsAt (λ c. p c ≡ true) nine i) (AllWithin (λ c. p c ≡ false) nine 0 (length nine))
+
+module _ (nine : List Cell) (p : Cell → Bool) {F : Type 0} {s : Iter Cell} (u : Iter Cell) (f : F) where
+  pub by_find : {g : Mut F (Bor (Bor Cell) × Unit {0}) Bool} (r : Option (Bor Cell))
+      → (xs : List (Bor Cell)) × (j : F) × YieldsThen fronts s xs r u × FoldsTo (λ p x q. CalledAt g p x false q) f xs j × MatchOption r ⊤ (λ x. (h : F) × CalledAt g j x true h)
+      → iter_rest s ≡ nine → ((x : Bor Cell) (b : Bool) (q : F) → CalledAt g f x b q → (q ≡ f) × (b ≡ p x.now)) → Found nine p r
+  by_find r ran e calls =
+      first_from_find u f r (λ c. p c ≡ true) (λ c. p c ≡ false) ran (YieldsList-from_slice nine e) (λ x q k. sym (calls x true q k).1)
+      (λ x q k. ((calls x false q k).0, sym (calls x false q k).1))
 
 module _ (nine : List Cell) (nodes : length nine ≡ 9) where
   -- the lowest-numbered cell that has the mark, and where none has it
