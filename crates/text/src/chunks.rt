@@ -50,6 +50,7 @@ pub fn parse(s: &[u8], most: usize, words: &mut [u32], marks: &mut [u8]) -> Pars
     let k = most.min(some);
     let mut at: usize = 0;
     let mut next: usize = 0;
+    // by number: a line has any length, and the marks are of a list that is lent
     for lines in 0..k {
         if s.len() <= next {
             return Parsed {

@@ -88,6 +88,7 @@ fn take_fields(s: &[u8], from: usize) -> Taken
 {
     let mut words = [0u32; 8];
     let mut i: usize = from;
+    // by number: the count is answered, and a field has any length
     for count in 0..8 {
         if let Some(d) = short(s, i) {
             words[count] = d;
