@@ -5,8 +5,8 @@ use std::io::Read;
 use streams::{Failure, read_more};
 
 // The file and its name, the bytes that are held, the words that are to be joined, the last time, how many lines were read, and
-// how the file ends, once that is known: with its last line, or before a line that is refused. A part of a file is at most 1,024 records. There is no heap, so `held` and `count` stand
-// beside their lists.
+// how the file ends, once that is known: with its last line, or before a line that is refused. A part of a file is at most
+// 1,024 records. There is no heap, so `held` and `count` stand beside their lists.
 #[derive(Drop)]
 pub(crate) struct Lane<'a, R> {
     input: R,
