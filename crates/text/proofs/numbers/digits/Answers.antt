@@ -48,9 +48,9 @@ returns-then-not-is_ascii_digit c =
       small = l.invariant.0;
       after = byte ∙ byte_in s (from + l.k) h;
       stop = λ m e.
-        let d = y ∙ ap is_digit byte ∙ e in
-        elim c.then-not-is_ascii_digit.either [
-          | inl n ↦ absurd (true≢false (sym d ∙ n))
-          | inr w ↦ omega arith
-        ];
+          let d = y ∙ ap is_digit byte ∙ e in
+          elim c.then-not-is_ascii_digit.either [
+            | inl n ↦ absurd (true≢false (sym d ∙ n))
+            | inr w ↦ omega arith
+          ];
     }
