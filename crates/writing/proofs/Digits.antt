@@ -35,7 +35,7 @@ below_power = decimal_by_steps (λ m ds. m < 10 ^ length ds) (λ m h. omega arit
     (λ m ds h i. let p = pow-suc 10 (length ds) in let l : length (ds ++ ((48 + m % 10) ∷ [])) ≡ suc (length ds) = rw length-append (omega arith) in rw l (omega arith))
 
 -- how many they are
-width_is : (k n : ℕ) → n < 2 ^ 32 → n < 10 * 10 ^ k → (k ≡ 0) ⊎ (10 ^ k ≤ n) → k + 1 ≡ length (decimal n)
+pub width_is : (k n : ℕ) → n < 2 ^ 32 → n < 10 * 10 ^ k → (k ≡ 0) ⊎ (10 ^ k ≤ n) → k + 1 ≡ length (decimal n)
 width_is k n w h o =
     let p = pow-suc 10 k in
     let l = length-decimal-le (suc k) n (omega arith) (omega arith) (omega arith) in

@@ -72,7 +72,7 @@ unfolding answer_text
 puts_answer d d₁ d₂ d₃ at p q r a b c f g h =
     puts_append (ended a 9) (ended b 9 ++ ended c 10) d d₁ d₃ at p r f (puts_append (ended b 9) (ended c 10) d₁ d₂ d₃ p q r g h)
 
--- a number of one digit, and one of two
+-- a number of one digit, one of two, and one of three
 pub decimal_one : (n : ℕ) → n < 10 → decimal n ≡ (48 + n) ∷ []
 unfolding decimal decimal_to
 decimal_one n h = rw (lt-ltb n 10 h)
@@ -80,6 +80,10 @@ decimal_one n h = rw (lt-ltb n 10 h)
 pub decimal_two : (n : ℕ) → 10 ≤ n → n < 100 → decimal n ≡ (48 + n / 10) ∷ (48 + n % 10) ∷ []
 unfolding decimal decimal_to
 decimal_two n h k = rw (le-ltb n 10 h, lt-ltb (n / 10) 10 (omega arith))
+
+pub decimal_three : (n : ℕ) → 100 ≤ n → n < 1000 → decimal n ≡ (48 + n / 10 / 10) ∷ (48 + n / 10 % 10) ∷ (48 + n % 10) ∷ []
+unfolding decimal decimal_to
+decimal_three n h k = rw (le-ltb n 10 (omega arith), le-ltb (n / 10) 10 (omega arith), lt-ltb (n / 10 / 10) 10 (omega arith))
 
 pub puts_one : (d : List ℕ) (at n b : ℕ) → n < 10 → Puts d at (ended n b) (at + 2) (set (set d at (48 + n)) (at + 1) b)
 unfolding ended
@@ -91,6 +95,14 @@ unfolding ended
 puts_two d at n b h k =
     let e : at + 2 ≡ suc (suc at) = omega arith in
     rw (decimal_two n h k, e, add-one at) (refl, refl)
+
+pub puts_three : (d : List ℕ) (at n b : ℕ) → 100 ≤ n → n < 1000
+    → Puts d at (ended n b) (at + 4) (set (set (set (set d at (48 + n / 10 / 10)) (at + 1) (48 + n / 10 % 10)) (at + 2) (48 + n % 10)) (at + 3) b)
+unfolding ended
+puts_three d at n b h k =
+    let e : at + 2 ≡ suc (suc at) = omega arith in
+    let f : at + 3 ≡ suc (suc (suc at)) = omega arith in
+    rw (decimal_three n h k, f, e, add-one at) (refl, refl)
 
 -- what the library wrote up to a place, and a byte there
 pub puts_written : (d d' : List ℕ) (at n b r end : ℕ) → n < 2 ^ 32 → end ≡ at + length (decimal n) → end < length d

@@ -5,10 +5,16 @@ ghost use Rattle.writing.specs.Writing.{decimal, ended};
 
 use itoa::write_digits;
 
-// How many decimal digits a number has.
+// How many decimal digits a number has. Most have one or two: with the logarithm alone `write` takes twice as long for these.
 pub(crate) fn width(n: u32) -> usize
     ensures { (result ≡ length (decimal n)) × (result ≤ 10) }
 {
+    if n < 10 {
+        return 1;
+    }
+    if n < 100 {
+        return 2;
+    }
     n.checked_ilog10().unwrap_or(0) as usize + 1
 }
 
@@ -26,8 +32,8 @@ fn put_digits(dst: &mut [u8], at: usize, n: u32, end: u8) -> usize
     after + 1
 }
 
-// Puts the digits of `n` and the byte `end`, and answers the place after them. Most numbers have one or two digits, and these are
-// put here: with the call alone, `tokens` takes a tenth more for a line.
+// Puts the digits of `n` and the byte `end`, and answers the place after them. Most numbers have up to three digits, and these are
+// put here: with the call alone, `tokens` takes a tenth more for a line, and `line` a third more for numbers of three digits.
 pub(crate) fn put_number(dst: &mut [u8], at: usize, n: u32, end: u8) -> usize
     requires { at + length (decimal n) < length dst.old }
     ensures value { result ≡ at + length (ended n end) }
@@ -43,6 +49,14 @@ pub(crate) fn put_number(dst: &mut [u8], at: usize, n: u32, end: u8) -> usize
         dst[at + 1] = b'0' + (n % 10) as u8;
         dst[at + 2] = end;
         return at + 3;
+    }
+    if n < 1000 {
+        let tens = n / 10;
+        dst[at] = b'0' + (tens / 10) as u8;
+        dst[at + 1] = b'0' + (tens % 10) as u8;
+        dst[at + 2] = b'0' + (n % 10) as u8;
+        dst[at + 3] = end;
+        return at + 4;
     }
     put_digits(dst, at, n, end)
 }

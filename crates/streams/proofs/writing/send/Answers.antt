@@ -1,5 +1,12 @@
+use native.Mathlib.Omega.{arith}
+use lib.ListN.{length-take, length-drop}
 use Rattle.std.proofs.Common.{refl}
 use Rattle.streams.proofs.writing.send.Goals as goal
 
-pub returns-then-is_empty : goal.returns-then-is_empty
-returns-then-is_empty g c = record { none = λ _. refl }
+pub loop-rest-smaller : goal.loop-rest-smaller
+loop-rest-smaller g c =
+    let taken = c.if-put-eq0.false in
+    simp (length-take, length-drop) (omega arith)
+
+pub returns : goal.returns
+returns g c = record { none = λ _. refl }
