@@ -1,6 +1,4 @@
-use Rattle.std.proofs.Common.{◌≡◌, true, false, eqb, rules}
-use Rattle.std.proofs.lemmas.Iterator.{YieldsList-from_slice, IsFirst-from_position}
-use borrow.Author.Tests.{tests}
+use Rattle.numbers.proofs.Facts.Searches.{◌≡◌, true, false, eqb, rules, tests, YieldsList-from_slice, IsFirst-from_position}
 use Rattle.numbers.proofs.Facts.Tags.{slot_first}
 use Rattle.numbers.proofs.tags.lowest_free.Goals as goal
 

@@ -1,0 +1,5 @@
+-- `move_up` has no loop of its own. An edit that gives it one (`zeros_moved`) writes here what each turn keeps:
+-- words
+-- goals
+-- name
+-- fact
