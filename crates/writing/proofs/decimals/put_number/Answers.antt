@@ -1,7 +1,7 @@
 use mathlib.Core.Path.{ap}
 use native.Mathlib.Omega.{arith}
 use lib.ListN.{length, length-set}
-use Rattle.writing.proofs.Puts.{decimal_one, decimal_two, decimal_three, puts_one, puts_two, puts_three}
+use Rattle.writing.proofs.Puts.{decimal_one, decimal_two, puts_one, puts_two}
 use Rattle.writing.proofs.decimals.put_number.Goals as goal
 
 pub bounds-dst-at-then-n-lt10 : goal.bounds-dst-at-then-n-lt10
@@ -27,24 +27,4 @@ bounds-dst-at-then-n-lt100-3 c =
 pub returns-then-n-lt100 : goal.returns-then-n-lt100
 returns-then-n-lt100 c =
     let p = puts_two c.args.dst.now c.args.at c.args.n c.args.end c.if-n-lt10.false c.if-n-lt100.true in
-    record { value = p.0; dst_after = p.1 }
-
-pub bounds-dst-at-then-n-lt1000-2 : goal.bounds-dst-at-then-n-lt1000-2
-bounds-dst-at-then-n-lt1000-2 c =
-    let l = ap length (decimal_three c.args.n c.if-n-lt100.false c.if-n-lt1000.true) in
-    simp length-set (omega arith)
-
-pub bounds-dst-at-then-n-lt1000-3 : goal.bounds-dst-at-then-n-lt1000-3
-bounds-dst-at-then-n-lt1000-3 c =
-    let l = ap length (decimal_three c.args.n c.if-n-lt100.false c.if-n-lt1000.true) in
-    simp length-set (omega arith)
-
-pub bounds-dst-at-then-n-lt1000-4 : goal.bounds-dst-at-then-n-lt1000-4
-bounds-dst-at-then-n-lt1000-4 c =
-    let l = ap length (decimal_three c.args.n c.if-n-lt100.false c.if-n-lt1000.true) in
-    simp length-set (omega arith)
-
-pub returns-then-n-lt1000 : goal.returns-then-n-lt1000
-returns-then-n-lt1000 c =
-    let p = puts_three c.args.dst.now c.args.at c.args.n c.args.end c.if-n-lt100.false c.if-n-lt1000.true in
     record { value = p.0; dst_after = p.1 }
