@@ -11,6 +11,7 @@ use lib.Seq.{sets, drop-length, get_or-drop, take-add, take-length}
 use Rattle.std.proofs.lemmas.List.{nil_from_length}
 use Rattle.held.specs.Moves.{piece}
 use Rattle.held.proofs.Copies.{Moved}
+use Rattle.held.proofs.Fronts.{between}
 use Rattle.probes.specs.Records.{records, records_of, words_of, time_of}
 use Rattle.probes.specs.Joins.{joined, number_of}
 use Rattle.probes.specs.Orders.{last_after, last_time, first_ends}
@@ -153,15 +154,14 @@ module _ (a b : List ℕ) (room : ℕ) (h : number_of a b room ≡ 0) where
 
 -- ---- the rest moves up
 
--- the end of a list
-end_moves : (d : List ℕ) (left : ℕ) (kept : List ℕ) → left ≤ length d → kept ≡ drop (length d - left) d
-    → (r : ℕ) (d' : List ℕ) → Moved d (length d - left) left d' r → (r ≡ length kept) × (d' ≡ sets d 0 kept)
+-- the end of the first n words of a list
+end_moves : (d : List ℕ) (n left : ℕ) (kept : List ℕ) → n ≤ length d → left ≤ n → kept ≡ drop (n - left) (take n d)
+    → (r : ℕ) (d' : List ℕ) → Moved d (n - left) left d' r → (r ≡ length kept) × (d' ≡ sets d 0 kept)
 unfolding piece
-end_moves d left kept h e r d' g =
-    let f : length d - (length d - left) ≡ left = omega arith in
-    let l = length-drop (length d - left) d in
-    let p : piece (length d - left) left d ≡ kept
-    = ap (λ (m : ℕ). take m (drop (length d - left) d)) (sym (l ∙ f)) ∙ take-length (drop (length d - left) d) ∙ sym e in
+end_moves d n left kept h k e r d' g =
+    let f : n - (n - left) ≡ left = omega arith in
+    let p : piece (n - left) left d ≡ kept
+    = sym (between d (n - left) n (omega arith) h ∙ ap (λ (m : ℕ). take m (drop (n - left) d)) f) ∙ sym e in
     (g.0 ∙ ap length p, g.1 ∙ ap (sets d 0) p)
 
 module _ (a b : List ℕ) (rest : ℕ) (v : Leaves a b rest) where
@@ -190,7 +190,7 @@ module _ (a b : List ℕ) (rest : ℕ) (v : Leaves a b rest) where
       pub second_moves : (r : ℕ) (b' : List ℕ) → Moved b (length b - rest) rest b' r → MovesUp a b a b' (record { first = 0; second = r })
       second_moves r b' g =
           let u = used_first in
-          let e = end_moves b rest (kept_second a b) second_fits (u.2 ∙ rw v.words) r b' g in
+          let e = end_moves b (length b) rest (kept_second a b) (omega arith) second_fits (u.2 ∙ rw (v.words, take-length b)) r b' g in
           record { firsts = sym (ap length u.0); seconds = e.0; moved_first = rw u.0; moved_second = e.1 }
 
     -- the second is used up
@@ -204,5 +204,5 @@ module _ (a b : List ℕ) (rest : ℕ) (v : Leaves a b rest) where
       pub first_moves : (r : ℕ) (a' : List ℕ) → Moved a (length a - rest) rest a' r → MovesUp a b a' b (record { first = r; second = 0 })
       first_moves r a' g =
           let u = used_second in
-          let e = end_moves a rest (kept_first a b) first_fits (u.2 ∙ rw v.words) r a' g in
+          let e = end_moves a (length a) rest (kept_first a b) (omega arith) first_fits (u.2 ∙ rw (v.words, take-length a)) r a' g in
           record { firsts = e.0; seconds = sym (ap length u.0); moved_first = e.1; moved_second = rw u.0 }

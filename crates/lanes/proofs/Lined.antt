@@ -39,7 +39,7 @@ abbrev pub given : Option (List ℕ) → Maybe (List ℕ)
 given none = None
 given (some x) = Some x
 
-next_any : (o : Option (List ℕ)) (m : ℕ) → (nined o m).next ≡ m
+pub next_any : (o : Option (List ℕ)) (m : ℕ) → (nined o m).next ≡ m
 unfolding nined
 next_any none m = refl
 next_any (some x) m = refl

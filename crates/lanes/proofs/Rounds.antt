@@ -2,11 +2,11 @@
 use Prim.Native.Nat.{ℕ, ◌+◌, ◌/◌, ◌≤◌, ◌<◌, min}
 use mathlib.Core.Path.{◌≡◌, refl, sym, ap, subst₂, ◌∙◌}
 use mathlib.Core.Bool.{Bool, true, false, cond as pick}
-use mathlib.Core.List.{List, ◌++◌, append_assoc, append-nil}
+use mathlib.Core.List.{List, ◌++◌, append_assoc}
 use native.Mathlib.Omega.{arith}
 use borrow.Author.Tests.{eq-eqb, ne_eqb, lt-ltb, le-ltb}
 use lib.ListN.{length, take, drop, length-take, take-append-drop}
-use lib.Seq.{sets, sets-eq, drop-length, drop-append-le}
+use lib.Seq.{sets, sets-eq, take-length, drop-append-le}
 use native.Mathlib.Nat.{zero-add}
 use Rattle.std.specs.Prelude.{Some, None}
 use Rattle.held.proofs.Fronts.{take_least}
@@ -30,11 +30,18 @@ told_back Uneven = refl
 told_back NoRoom = refl
 told_back TimeFalls = refl
 
--- a list put over itself
-own_front : (d : List ℕ) → d ≡ sets d 0 d
-own_front d =
-    let z = zero-add (length d) in
-    sym (sets-eq d d 0 (omega arith) ∙ rw (z, drop-length) (append-nil d))
+-- a list's front put over itself, and the whole list
+own_front : (d : List ℕ) (n : ℕ) → d ≡ sets d 0 (take n d)
+own_front d n =
+    let k = length (take n d) in
+    let l = length-take n d in
+    sym (sets-eq (take n d) d 0 (omega arith)
+    ∙ ap (λ (j : ℕ). take n d ++ drop j d) (zero-add k)
+    ∙ ap (λ (w : List ℕ). w ++ drop k d) (sym (take_least n k d l))
+    ∙ take-append-drop k d)
+
+own_all : (d : List ℕ) → d ≡ sets d 0 d
+own_all d = own_front d (length d) ∙ ap (sets d 0) (take-length d)
 
 -- ---- two lists, and all of both
 
@@ -56,8 +63,8 @@ module _ (a b third out : List ℕ) where
       let n₀ = ne_eqb (turn_number a b room bytes) 0 (λ f. some_number why (e ∙ f)) in
       record {
         returned = rw (n₀, ← e, told_back why);
-        firsts = rw n₀ (own_front a);
-        seconds = rw n₀ (own_front b);
+        firsts = rw n₀ (own_all a);
+        seconds = rw n₀ (own_all b);
         thirds = rw n₀;
         text = rw n₀;
       }

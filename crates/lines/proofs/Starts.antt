@@ -1,6 +1,6 @@
 -- The start line. Assumes nothing.
 use Prim.Native.Nat.{ℕ, ◌+◌, ◌/◌, ◌≤◌, ◌<◌, min}
-use mathlib.Core.Path.{◌≡◌, refl, sym, ap, ◌∙◌}
+use mathlib.Core.Path.{◌≡◌, refl, sym, ap, subst, ◌∙◌}
 use mathlib.Core.Bool.{Bool, true, false, cond as pick}
 use mathlib.Core.List.{List, [], ◌∷◌, append-nil}
 use mathlib.Core.Option.{Option, none, some}
@@ -29,6 +29,16 @@ use Rattle.lines.specs.declared.kept.Advanced.{Advanced}
 use Rattle.lines.specs.Program.{nothing_kept, unreadable, start_line, line_does, kept_after, line_text, kept_by, printed_by}
 use Rattle.lines.specs.Chunks.{Lent, lent, most_lines, advanced, lent_after}
 use Rattle.lines.specs.Parts.{running, start_fields}
+
+is_running : (k : Kept) → k.started ≡ true → running k.state ≡ k
+is_running k e = λ i. record { started = sym e i; state = k.state }
+
+-- what a call does after it
+pub run_is : (k : Kept) (s : List ℕ) (l : Lent) → k.started ≡ true → (r : Advanced) (words marks answers out : List ℕ)
+    → (r ≡ advanced (running k.state) s l) × (lent words marks answers out ≡ lent_after (running k.state) s l)
+    → (r ≡ advanced k s l) × (lent words marks answers out ≡ lent_after k s l)
+run_is k s l e r words marks answers out =
+    subst (λ (j : Kept). (r ≡ advanced j s l) × (lent words marks answers out ≡ lent_after j s l)) (is_running k e)
 
 -- ---- its numbers
 
@@ -103,11 +113,11 @@ module _ (k : Kept) (s out : List ℕ) (first : k.started ≡ false) where
   unfolding advanced lent_after kept_by printed_by
   nothing e f = rw (e, f) (refl, refl)
 
-  no_line : length s ≡ 0 → Does (record { kept = k; read = 0; written = 0 }) out
+  pub no_line : length s ≡ 0 → Does (record { kept = k; read = 0; written = 0 }) out
   unfolding lines_of
   no_line h = let e = nil_of s h in nothing (rw (e, take-nil (most_lines k alone))) (rw (e, passed_nil (most_lines k alone)))
 
-  no_room : length out < 33 → Does (record { kept = k; read = 0; written = 0 }) out
+  pub no_room : length out < 33 → Does (record { kept = k; read = 0; written = 0 }) out
   unfolding passed_by
   no_room h = let z : most_lines k alone ≡ 0 = most 0 (omega arith) in nothing (rw z) (rw z)
 

@@ -1,10 +1,11 @@
 -- The number of a join, row by row. Assumes nothing.
 use Prim.Native.Nat.{ℕ, ◌+◌, ◌%◌, ◌≤◌}
-use mathlib.Core.Path.{◌≡◌, refl}
+use mathlib.Core.Path.{◌≡◌, refl, ◌∙◌}
 use mathlib.Core.Bool.{Bool, true, false, ◌||◌}
 use mathlib.Core.List.{List}
 use native.Mathlib.Omega.{arith}
 use borrow.Author.Tests.{eqb-true, ltb-false, not-false}
+use lib.Dec.{ltb}
 use lib.ListN.{length}
 use Rattle.probes.specs.Records.{records_of, falls}
 use Rattle.probes.specs.declared.joining.Refusal.{Refusal}
@@ -30,6 +31,12 @@ free false true z e = absurd (omega arith)
 free false false true e = absurd (omega arith)
 free false false false e = (refl, refl, refl)
 
+-- 20 does not apply
+passed : (x y z : Bool) → (number_by x y z ≡ 20 → ⊥) → x ≡ false
+unfolding number_by
+passed true y z h = absurd (h refl)
+passed false y z h = refl
+
 even : (n m : ℕ) → uneven n || uneven m ≡ false → (n % 9 ≡ 0) × (m % 9 ≡ 0)
 even n m e =
     let h = neither _ _ e in
@@ -53,3 +60,7 @@ module _ (a b : List ℕ) (room : ℕ) where
       let l = even (length a) (length b) f.0 in
       let t = neither _ _ f.2 in
       record { first_even = l.0; second_even = l.1; fits = ltb-false _ _ f.1; first_rises = t.0; second_rises = t.1 }
+
+  pub both_even : (r : ℕ) → r ≡ number_by (uneven (length a) || uneven (length b)) (ltb room (length a + length b)) false → (r ≡ 20 → ⊥)
+      → (length a % 9 ≡ 0) × (length b % 9 ≡ 0)
+  both_even r e h = even (length a) (length b) (passed _ _ _ (λ p. h (e ∙ p)))

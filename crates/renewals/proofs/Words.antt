@@ -1,5 +1,5 @@
 -- A recreation as the library searches a line's nine cells. Assumes nothing.
-use Rattle.std.proofs.Common.{ℕ, ◌≡◌, ◌<◌, length, List, Bool, true, false, not, ◌||◌, cond as pick, Option, None, Some, MatchOption, Bor, Iter, eqb, arith, refl, sym, lt-ltb, eq-eqb, ne_eqb}
+use Rattle.std.proofs.Common.{ℕ, ◌≡◌, ◌≤◌, ◌<◌, length, List, Bool, true, false, not, ◌||◌, cond as pick, Option, None, Some, MatchOption, Bor, Iter, eqb, arith, refl, sym, ap, ◌∙◌, lt-ltb, le-ltb, eq-eqb, ne_eqb}
 use Rattle.std.proofs.iter.Yields.{fronts}
 use Rattle.std.proofs.lemmas.Iterator.{YieldsList-from_slice, first_from_find}
 use Rattle.std.specs.Bool.{MatchBool, ⊤}
@@ -34,6 +34,21 @@ module _ (nine : List Cell) (p : Cell → Bool) {F : Type 0} {s : Iter Cell} (u 
   by_find r ran e calls =
       first_from_find u f r (λ c. p c ≡ true) (λ c. p c ≡ false) ran (YieldsList-from_slice nine e) (λ x q k. sym (calls x true q k).1)
       (λ x q k. ((calls x false q k).0, sym (calls x false q k).1))
+
+-- the word, by the lowest-numbered cells
+module _ (x : Cell) (cells : ℕ → Cell) {o : ℕ} (ho : o ≡ lowest cells (λ c. c.owner)) where
+  pub word_owner : o < 9 → (cells o).word ≡ word_for x cells
+  unfolding word_for
+  word_owner l = rw (← ho, lt-ltb o 9 l)
+
+  module _ (no : 9 ≤ o) {v : ℕ} (hv : v ≡ lowest cells (λ c. c.valid)) where
+    pub word_valid : v < 9 → (cells v).word ≡ word_for x cells
+    unfolding word_for
+    word_valid l = rw (← ho, le-ltb o 9 no, ← hv, lt-ltb v 9 l)
+
+    pub word_own : 9 ≤ v → pick x.backup x.saved 0 ≡ word_for x cells
+    unfolding word_for
+    word_own l = rw (← ho, le-ltb o 9 no, ← hv, le-ltb v 9 l)
 
 module _ (nine : List Cell) (nodes : length nine ≡ 9) where
   -- the lowest-numbered cell that has the mark, and where none has it
@@ -80,19 +95,21 @@ module _ (nine : List Cell) (nodes : length nine ≡ 9) where
 
   -- the word, by what the two searches find
   module _ (x : Cell) (o : Option (Bor Cell)) (ho : Found nine (λ c. c.owner) o) where
-    pub word_owner : (y : Bor Cell) → o ≡ Some y → y.now.word ≡ word_for x (nth nine)
-    unfolding word_for
-    word_owner y e =
+    pub found_owner : (y : Bor Cell) → o ≡ Some y → y.now.word ≡ word_for x (nth nine)
+    found_owner y e =
         let l = lowest_some (λ c. c.owner) o y ho e in
-        rw (lt-ltb (lowest (nth nine) (λ c. c.owner)) 9 l.0, l.1)
+        sym (ap (λ (c : Cell). c.word) l.1) ∙ word_owner x (nth nine) refl l.0
 
     module _ (no : (y : Bor Cell) → o ≡ Some y → ⊥) (v : Option (Bor Cell)) (hv : Found nine (λ c. c.valid) v) where
-      pub word_valid : (y : Bor Cell) → v ≡ Some y → y.now.word ≡ word_for x (nth nine)
-      unfolding word_for
-      word_valid y e =
-          let l = lowest_some (λ c. c.valid) v y hv e in
-          rw (lowest_none (λ c. c.owner) o ho no, lt-ltb (lowest (nth nine) (λ c. c.valid)) 9 l.0, l.1)
+      no_owner : 9 ≤ lowest (nth nine) (λ c. c.owner)
+      no_owner = let n = lowest_none (λ c. c.owner) o ho no in omega arith
 
-      pub word_own : ((y : Bor Cell) → v ≡ Some y → ⊥) → {w : ℕ} → w ≡ pick x.backup x.saved 0 → w ≡ word_for x (nth nine)
-      unfolding word_for
-      word_own nv h = rw (h, lowest_none (λ c. c.owner) o ho no, lowest_none (λ c. c.valid) v hv nv)
+      pub found_valid : (y : Bor Cell) → v ≡ Some y → y.now.word ≡ word_for x (nth nine)
+      found_valid y e =
+          let l = lowest_some (λ c. c.valid) v y hv e in
+          sym (ap (λ (c : Cell). c.word) l.1) ∙ word_valid x (nth nine) refl no_owner refl l.0
+
+      pub found_own : ((y : Bor Cell) → v ≡ Some y → ⊥) → {w : ℕ} → w ≡ pick x.backup x.saved 0 → w ≡ word_for x (nth nine)
+      found_own nv h =
+          let n = lowest_none (λ c. c.valid) v hv nv in
+          h ∙ word_own x (nth nine) refl no_owner refl (omega arith)

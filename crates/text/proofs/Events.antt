@@ -164,12 +164,17 @@ module _ (s words₀ marks₀ : List ℕ) (most i j at : ℕ) (words marks : Lis
       }
 
   -- the room is used up
-  pub going_full : j ≡ most → Parses s most words₀ marks₀ words marks (record { lines = most; words = at; next = i })
+  pub going_full : most ≤ j → Parses s most words₀ marks₀ words marks (record { lines = j; words = at; next = i })
   unfolding passed_by
   going_full h =
       let z : most - j ≡ 0 = omega arith in
+      going_end (rw z) (rw z)
+
+  -- by as many lines as there is room for
+  pub going_most : j ≡ most → Parses s most words₀ marks₀ words marks (record { lines = most; words = at; next = i })
+  going_most h =
       let P : ℕ → Type 0 = λ n. Parses s most words₀ marks₀ words marks (record { lines = n; words = at; next = i }) in
-      subst P h (going_end (rw z) (rw z))
+      subst P h (going_full (omega arith))
 
   -- the input is used up
   pub going_none : length s ≤ i → Parses s most words₀ marks₀ words marks (record { lines = j; words = at; next = i })

@@ -2,6 +2,7 @@
 use Prim.Native.Nat.{ℕ, ◌+◌, ◌*◌, ◌≤◌, ◌<◌}
 use mathlib.Core.Bool.{true, false, ◌||◌, cond as pick}
 use mathlib.Core.Path.{◌≡◌, refl, sym, ap, ◌∙◌}
+use mathlib.Core.Logic.{◌≢◌}
 use mathlib.Core.List.{List}
 use native.Mathlib.Omega.{arith}
 use lib.ListN.{get_or, set}
@@ -25,7 +26,7 @@ use Rattle.rules.proofs.Keeps.Numbers.{step_effect}
 use Rattle.rules.proofs.Keeps.Well.{well_sizes}
 use Rattle.running.proofs.Facts.Numbers.{cell_number, cell_stops, cell_same, cell_within, no_timeout}
 use Rattle.running.proofs.Facts.Places.{place_is}
-use Rattle.running.proofs.Facts.Turns.{Held, Taken, taken, number_some, refused}
+use Rattle.running.proofs.Facts.Turns.{Held, Taken, taken, number_some, refused_turn}
 
 -- the cell that is loaded is the one that the event names, where there is one
 module _ (t : State) (w : well_formed t ≡ true) (e : Event) {k : ℕ} (pk : k ≡ place_of e.line e.node) where
@@ -72,31 +73,33 @@ touch_effect t e f =
     (omega arith)
     f
 
-module _ (t : State) {tags : List ℕ} (h : Held t tags) (e : Event) (plain : slotted e.kind || sending e.kind ≡ false) {k : ℕ} (pk : k ≡ place_of e.line e.node) where
+module _ (t : State) (w : well_formed t ≡ true) (e : Event) (plain : slotted e.kind || sending e.kind ≡ false) {k : ℕ} (pk : k ≡ place_of e.line e.node) where
   -- the number is that of the cell which the event names
   pub cause_is : cell_refusal t.sizes e e.kind (get_or t.cells k zero_cell) ≡ cell_refusal t.sizes e e.kind (cell_of t e)
-  cause_is = cell_same t.sizes e e.kind (get_or t.cells k zero_cell) (cell_of t e) (named t h.well e pk)
+  cause_is = cell_same t.sizes e e.kind (get_or t.cells k zero_cell) (cell_of t e) (named t w e pk)
 
-  pub cell_refused : (why : Refusal) → number_of why ≡ cell_refusal t.sizes e e.kind (get_or t.cells k zero_cell) → step_of t e ≡ stepped t (answer (number_of why) 0 64)
-  cell_refused why g =
+  pub cell_refused : {number : ℕ} → number ≡ cell_refusal t.sizes e e.kind (get_or t.cells k zero_cell) → number ≢ 0 → step_of t e ≡ stepped t (answer number 0 64)
+  cell_refused g d =
       let n = g ∙ cause_is in
-      refused t e why (cell_stops t e h.well plain (λ q. number_some why (n ∙ q)) ∙ sym n)
+      refused_turn t e (cell_stops t e w plain (λ q. d (n ∙ q)) ∙ sym n) d
 
   pub within : 0 ≡ cell_refusal t.sizes e e.kind (get_or t.cells k zero_cell) → (e.kind ≤ 9) × (e.line < t.sizes.lines) × (e.node ≤ t.sizes.caches)
   within g = cell_within t.sizes e e.kind (cell_of t e) plain (sym (g ∙ cause_is))
 
-module _ (t : State) {tags : List ℕ} (h : Held t tags) (e : Event) (is : touching e.kind ≡ true) {k : ℕ} (pk : k ≡ place_of e.line e.node) where
+module _ (t : State) (w : well_formed t ≡ true) (e : Event) (is : touching e.kind ≡ true) {k : ℕ} (pk : k ≡ place_of e.line e.node) where
   pub touch_refused : (why : Refusal) → number_of why ≡ cell_refusal t.sizes e e.kind (get_or t.cells k zero_cell) → step_of t e ≡ stepped t (answer (number_of why) 0 64)
-  touch_refused = cell_refused t h e (touch_plain e.kind is) pk
+  touch_refused why g = cell_refused t w e (touch_plain e.kind is) pk g (number_some why)
 
-  pub touch_taken : 0 ≡ cell_refusal t.sizes e e.kind (get_or t.cells k zero_cell) → {y : Cell} → y ≡ touched_cell e e.kind (get_or t.cells k zero_cell)
-      → Taken t e (record { sizes = t.sizes; serials = t.serials; cells = set t.cells k y; pool = t.pool }) (answer 0 (pick (reading e.kind) (get_or t.cells k zero_cell).word 0) 64) tags
+  pub touch_turn : 0 ≡ cell_refusal t.sizes e e.kind (get_or t.cells k zero_cell) → {y : Cell} → y ≡ touched_cell e e.kind (get_or t.cells k zero_cell)
+      → step_of t e ≡ stepped (record { sizes = t.sizes; serials = t.serials; cells = set t.cells k y; pool = t.pool }) (answer 0 (pick (reading e.kind) (get_or t.cells k zero_cell).word 0) 64)
   unfolding with_cell
-  touch_taken g {y} hy =
+  touch_turn g {y} hy =
       let plain = touch_plain e.kind is in
-      let i = within t h e plain pk g in
-      let x = named t h.well e pk i.1 i.2 in
-      taken h e
-      (step_effect t e (cell_number t e h.well plain (no_timeout e.kind (touch_kind e.kind is)) ∙ sym (g ∙ cause_is t h e plain pk)) ∙ touch_effect t e is
-      ∙ rw (x, hy, x, loaded t h.well e pk i.1 i.2))
-      h.tagged
+      let i = within t w e plain pk g in
+      let x = named t w e pk i.1 i.2 in
+      step_effect t e (cell_number t e w plain (no_timeout e.kind (touch_kind e.kind is)) ∙ sym (g ∙ cause_is t w e plain pk)) ∙ touch_effect t e is
+      ∙ rw (x, hy, x, loaded t w e pk i.1 i.2)
+
+  pub touch_taken : {tags : List ℕ} → Held t tags → 0 ≡ cell_refusal t.sizes e e.kind (get_or t.cells k zero_cell) → {y : Cell} → y ≡ touched_cell e e.kind (get_or t.cells k zero_cell)
+      → Taken t e (record { sizes = t.sizes; serials = t.serials; cells = set t.cells k y; pool = t.pool }) (answer 0 (pick (reading e.kind) (get_or t.cells k zero_cell).word 0) 64) tags
+  touch_taken h g hy = taken h e (touch_turn g hy) h.tagged

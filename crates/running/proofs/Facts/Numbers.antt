@@ -6,7 +6,7 @@ use mathlib.Core.Logic.{◌≢◌}
 use mathlib.Core.List.{List, [], ◌∷◌}
 use native.Mathlib.Omega.{arith}
 use lib.Dec.{eqb, leb, ltb}
-use borrow.Author.Tests.{ltb-true, ltb-false, leb-false, eqb-true, ne_eqb}
+use borrow.Author.Tests.{ltb-true, ltb-false, leb-false, eqb-true, eqb-false, eq-eqb, ne_eqb}
 use Rattle.running.specs.Types.{Cell, Sizes, State, Event}
 use Rattle.rules.specs.WellFormed.{well_formed}
 use Rattle.rules.specs.Refusals.{Row, seen, given, table, table_of, refusal, timeout, slotted, sending, delivering, cell_of, free_at, lowest_free}
@@ -76,7 +76,13 @@ module _ (s : State) (e : Event) (w : well_formed s ≡ true) where
     unfolding from table given
     timeout_number t h = cut ∙ rw (h, t)
 
--- kinds below 7 are no timeouts
+-- kinds 7 to 9 are the timeouts
+pub is_timeout : (k : ℕ) → 7 ≤ k → k ≤ 9 → timeout k ≡ true
+is_timeout k a b =
+    split (eqb k 7) (λ t. rw t)
+    (λ f. split (eqb k 8) (λ t. rw (f, t)) (λ g. rw (f, g) (eq-eqb k 9 (omega (arith, eqb-false k 7 f, eqb-false k 8 g)))))
+
+-- kinds below 7 are none
 pub no_timeout : (k : ℕ) → k < 7 → timeout k ≡ false
 no_timeout k h = rw (ne_eqb k 7 (λ z. omega arith), ne_eqb k 8 (λ z. omega arith), ne_eqb k 9 (λ z. omega arith))
 

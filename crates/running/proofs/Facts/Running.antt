@@ -13,7 +13,7 @@ use Rattle.running.specs.Words.{answer_set}
 use Rattle.running.specs.Steps.{stepped}
 
 -- an event read from the part of the words that holds it
-event_part : (ws : List ℕ) (k : ℕ) → k ≡ 8 → event_of (take k ws) ≡ event_of ws
+pub event_part : (ws : List ℕ) (k : ℕ) → k ≡ 8 → event_of (take k ws) ≡ event_of ws
 event_part ws k h =
     let h0 : 0 < k = omega arith in
     let h1 : 1 < k = omega arith in

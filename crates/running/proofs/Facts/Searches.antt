@@ -5,15 +5,15 @@ use mathlib.Core.Path.{◌≡◌, refl, sym, ap, ap₂, ◌∙◌}
 use mathlib.Core.List.{List}
 use native.Mathlib.Omega.{arith}
 use lib.Dec.{eqb, ltb}
-use lib.ListN.{get_or}
+use lib.ListN.{get_or, set}
 use native.Mathlib.Decide.{ℕ_discrete}
 use borrow.Author.Tests.{ltb-true, ltb-false, eq-eqb, ne_eqb}
 use Rattle.running.specs.Types.{Cell, MessageKind, Free, Tokens, OwnershipAck, DeletionAck, State, Event}
-use Rattle.rules.specs.Tools.{first_to}
+use Rattle.rules.specs.Tools.{first_to, fill_to}
 use Rattle.rules.specs.States.{slot_at, is_free, bears}
 use Rattle.rules.specs.WellFormed.{well_formed}
 use Rattle.rules.specs.Refusals.{free_at, lowest, copyless, backupless, lowest_free, unborne}
-use Rattle.rules.specs.Effects.{word_for}
+use Rattle.rules.specs.Effects.{word_for, recreated_line}
 use Rattle.numbers.specs.Tags.{tag_of, Tagged, first_untagged, absent}
 use Rattle.numbers.specs.Rows.{slot_sight, slot_refusal}
 use Rattle.rules.specs.Refusals.{table, given}
@@ -25,6 +25,11 @@ pub first_same : (k : ℕ) {p q : ℕ → Bool} → ((i : ℕ) → i < k → p i
 unfolding first_to
 first_same zero h = refl
 first_same (suc k) {p} {q} h = ap₂ (λ b n. pick b 0 (suc n)) (h 0 (omega arith)) (first_same k (λ i l. h (suc i) (omega arith)))
+
+pub fill_same : {A : Type 0} (k at : ℕ) {f g : ℕ → A} (l : List A) → ((i : ℕ) → i < k → f i ≡ g i) → fill_to k at f l ≡ fill_to k at g l
+unfolding fill_to
+fill_same zero at l h = refl
+fill_same (suc k) at l h = ap₂ (λ cs x. set cs (at + k) x) (fill_same k at l (λ i b. h i (omega arith))) (h k (omega arith))
 
 -- a tag tells of a free slot
 tag_free : (k : MessageKind) (line q : ℕ) → eqb (tag_of k line q) 0 ≡ is_free k
@@ -111,3 +116,6 @@ module _ {f g : ℕ → Cell} (same : (n : ℕ) → n < 9 → f n ≡ g n) where
   word_same x =
       rw (lowest_same (λ c. c.owner), lowest_same (λ c. c.valid))
       (found (lowest g (λ c. c.owner)) (λ c. c.word) (found (lowest g (λ c. c.valid)) (λ c. c.word) refl))
+
+  pub after_same : (n node : ℕ) → node < 9 → (j : ℕ) → j < 9 → recreated_line n node f j ≡ recreated_line n node g j
+  after_same n node h j l = rw (same node h, word_same (g node), same j l)

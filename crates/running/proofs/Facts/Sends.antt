@@ -2,16 +2,15 @@
 use Prim.Native.Nat.{ℕ, ◌≤◌, ◌<◌, ◌%◌}
 use mathlib.Core.Bool.{Bool, true, ◌||◌}
 use mathlib.Core.Path.{◌≡◌, refl, sym, ap, subst, ◌∙◌}
+use mathlib.Core.Logic.{◌≢◌}
 use mathlib.Core.List.{List}
 use native.Mathlib.Omega.{arith}
 use lib.Dec.{eqb, leb, ltb}
 use lib.ListN.{get_or, set}
 use borrow.Author.Tests.{ltb-false, leb-false, eqb-true, ne_eqb}
 use Rattle.std.specs.Prelude.{Option, None, Some, is_none, IfSome}
-use Rattle.rules.specs.declared.refusals.Refusal.{Refusal}
 use Rattle.running.specs.Types.{Cell, Tokens, Message, Sizes, State, Event}
 use Rattle.rules.specs.Cells.{zero_cell}
-use Rattle.rules.specs.Kinds.{number_of}
 use Rattle.rules.specs.States.{serial_at, with_cell, with_slot}
 use Rattle.rules.specs.Refusals.{refusal, table, table_of, given, sending, cell_of, lowest_free}
 use Rattle.rules.specs.Effects.{answer, sent_cell, sent_message, send_of, effect, step_of}
@@ -28,7 +27,7 @@ use Rattle.rules.proofs.Keeps.Well.{well_sizes, well_count}
 use Rattle.running.proofs.Facts.Numbers.{send_number}
 use Rattle.running.proofs.Facts.Places.{row_is}
 use Rattle.running.proofs.Facts.Searches.{free_found}
-use Rattle.running.proofs.Facts.Turns.{Held, Taken, taken, tag_set, refused}
+use Rattle.running.proofs.Facts.Turns.{Held, Taken, taken, tag_set, refused_turn}
 use Rattle.running.proofs.Facts.Cells.{loaded, named}
 
 -- the rows that look at the sender's cell are asked only of a line and a node within the sizes
@@ -59,8 +58,8 @@ module _ (t : State) {tags : List ℕ} (h : Held t tags) (e : Event) (is : sendi
       send_number t e h.well (full_is free near ∙ ap (λ i. eqb i 64) slot_is) is
       ∙ sym (send_same t.sizes e (get_or t.cells k zero_cell) (cell_of t e) (is_none free) (named t h.well e pk))
 
-  pub send_refused : (why : Refusal) → number_of why ≡ send_refusal t.sizes e (get_or t.cells k zero_cell) (is_none free) → step_of t e ≡ stepped t (answer (number_of why) 0 64)
-  send_refused why g = refused t e why (number_is ∙ sym g)
+  pub send_refused : {number : ℕ} → number ≡ send_refusal t.sizes e (get_or t.cells k zero_cell) (is_none free) → number ≢ 0 → step_of t e ≡ stepped t (answer number 0 64)
+  send_refused g d = refused_turn t e (number_is ∙ sym g) d
 
   module _ (done : 0 ≡ send_refusal t.sizes e (get_or t.cells k zero_cell) (is_none free)) {i : ℕ} (there : free ≡ Some i) where
     -- what a send that is not refused has

@@ -2,15 +2,14 @@
 use Prim.Native.Nat.{ℕ, ◌<◌}
 use mathlib.Core.Bool.{Bool, true, false, cond as pick}
 use mathlib.Core.Path.{◌≡◌, refl, sym, ap, ◌∙◌}
+use mathlib.Core.Logic.{◌≢◌}
 use mathlib.Core.List.{List}
 use native.Mathlib.Omega.{arith}
 use lib.Dec.{eqb}
 use lib.ListN.{get_or, set}
 use borrow.Author.Tests.{eqb-true, lt-ltb}
-use Rattle.rules.specs.declared.refusals.Refusal.{Refusal}
 use Rattle.running.specs.Types.{Cell, MessageKind, Free, Tokens, OwnershipAck, DeletionAck, Message, State, Event, Arrival, Stepped}
 use Rattle.rules.specs.Cells.{zero_cell}
-use Rattle.rules.specs.Kinds.{number_of}
 use Rattle.rules.specs.States.{free_message, cell_at, slot_at, serial_at, with_cell, with_slot}
 use Rattle.rules.specs.WellFormed.{well_formed}
 use Rattle.rules.specs.Refusals.{refusal, delivering, slotted, free_at}
@@ -27,7 +26,7 @@ use Rattle.rules.proofs.Keeps.Well.{well_sizes, well_address, well_fits}
 use Rattle.running.proofs.Facts.Numbers.{slot_number}
 use Rattle.running.proofs.Facts.Places.{row_is, place_is}
 use Rattle.running.proofs.Facts.Searches.{slot_refusal_lem, slot_near, slot_busy}
-use Rattle.running.proofs.Facts.Turns.{Held, Taken, taken, tag_set, refused}
+use Rattle.running.proofs.Facts.Turns.{Held, Taken, taken, tag_set, refused_turn}
 
 -- a reply has the tag of its kind
 reply_tag : (k : MessageKind) (q : ℕ) (m : Message) → tag_of k m.line q ≡ slot_tag (reply_of k q m)
@@ -59,8 +58,8 @@ module _ (t : State) (e : Event) (slot : slotted e.kind ≡ true) {tags : List �
   number_is : refusal t e ≡ slot_refusal tags e
   number_is = slot_number t e w slot ∙ sym (slot_refusal_lem t tagged e)
 
-  pub slot_refused : (why : Refusal) → number_of why ≡ slot_refusal tags e → step_of t e ≡ stepped t (answer (number_of why) 0 64)
-  slot_refused why g = refused t e why (number_is ∙ sym g)
+  pub slot_refused : {number : ℕ} → number ≡ slot_refusal tags e → number ≢ 0 → step_of t e ≡ stepped t (answer number 0 64)
+  slot_refused g d = refused_turn t e (number_is ∙ sym g) d
 
 module _ (t : State) (e : Event) (slot : slotted e.kind ≡ true) {tags : List ℕ} (h : Held t tags) (accepted : 0 ≡ slot_refusal tags e) where
   near : e.amount < 64

@@ -2,6 +2,7 @@
 use Prim.Native.Nat.{ℕ, zero, suc, ◌+◌, ◌*◌, ◌≤◌, ◌<◌}
 use mathlib.Core.Bool.{Bool, true, false, not, ◌||◌}
 use mathlib.Core.Path.{◌≡◌, refl, sym, ap, ap₂, ◌∙◌}
+use mathlib.Core.Logic.{◌≢◌}
 use mathlib.Core.List.{List}
 use native.Mathlib.Omega.{arith}
 use lib.Dec.{eqb, ltb}
@@ -14,22 +15,23 @@ use Rattle.rules.specs.Kinds.{number_of}
 use Rattle.rules.specs.Tools.{fill_to}
 use Rattle.rules.specs.Cells.{zero_cell}
 use Rattle.rules.specs.States.{cell_at, serial_at, with_serial}
+use Rattle.rules.specs.WellFormed.{well_formed}
 use Rattle.rules.specs.Refusals.{refusal, table, table_of, given, timeout, lost_token, lost_data, slotted, sending, cell_of, next, unborne}
 use Rattle.rules.specs.Effects.{answer, word_for, after_recreation, recreated_line, recreate_of, step_of}
 use Rattle.numbers.specs.Places.{row_of, place_of}
 use Rattle.numbers.specs.Rows.{from, cell_refusal}
 use Rattle.renewals.specs.Nines.{nth, renewal_refusal}
-use Rattle.numbers.specs.Tags.{tag_of, absent}
+use Rattle.numbers.specs.Tags.{tag_of, Tagged, absent}
 use Rattle.running.specs.Steps.{stepped, LineCopied, renewed_at}
 use Rattle.rules.proofs.Laws.Bools.{split, by_pick, clash}
 use Rattle.rules.proofs.Keeps.Accepted.{by_kind}
 use Rattle.rules.proofs.Keeps.Numbers.{step_effect, timeout_effect}
 use Rattle.rules.proofs.Keeps.Well.{well_sizes}
 use Rattle.rules.proofs.Facts.Loops.{fill_more}
-use Rattle.running.proofs.Facts.Numbers.{timeout_number}
+use Rattle.running.proofs.Facts.Numbers.{timeout_number, is_timeout}
 use Rattle.running.proofs.Facts.Places.{row_is}
 use Rattle.running.proofs.Facts.Searches.{copyless_same, backupless_same, word_same, absent_is}
-use Rattle.running.proofs.Facts.Turns.{Held, Taken, taken, refused}
+use Rattle.running.proofs.Facts.Turns.{Held, Taken, taken, number_some, refused_turn}
 use Rattle.running.proofs.Facts.Cells.{named, cause_is, cell_refused, within}
 
 abbrev serial_of : ℕ → Serial
@@ -39,7 +41,7 @@ next_small : (q : ℕ) → next q < 256
 unfolding next
 next_small q = by_pick (λ r. r < 256) (ltb q 3) (λ t. omega (arith, ltb-true q 3 t)) (λ _. omega arith)
 
--- kinds 7 to 9 are the timeouts
+-- a timeout is of a kind up to 9, and no send, delivery or drop
 timeout_kind : (k : ℕ) → timeout k ≡ true → k ≤ 9
 timeout_kind k h =
     split (lost_token k) (λ t. omega (arith, eqb-true k 7 t))
@@ -50,23 +52,40 @@ timeout_plain k h =
     by_kind (λ k. timeout k ≡ true → slotted k || sending k ≡ false) (λ _. refl) (λ _. refl) (λ g. clash g refl) (λ g. clash g refl) (λ g. clash g refl) (λ _. refl) (λ _. refl)
     (λ _. refl) (λ _. refl) (λ _. refl) k (timeout_kind k h) h
 
-module _ (t : State) {tags : List ℕ} (h : Held t tags) (e : Event) (is : timeout e.kind ≡ true) {k : ℕ} (pk : k ≡ place_of e.line e.node) where
+-- an event that has a cause, of kind 7 or above, is a timeout
+pub timed : (t : State) → well_formed t ≡ true → (e : Event) → slotted e.kind || sending e.kind ≡ false → {k : ℕ} → k ≡ place_of e.line e.node
+    → 0 ≡ cell_refusal t.sizes e e.kind (get_or t.cells k zero_cell) → 7 ≤ e.kind → timeout e.kind ≡ true
+timed t w e plain pk caused late = is_timeout e.kind late (within t w e plain pk caused).0
+
+module _ (t : State) (w : well_formed t ≡ true) (e : Event) (is : timeout e.kind ≡ true) {k : ℕ} (pk : k ≡ place_of e.line e.node) where
   plain : slotted e.kind || sending e.kind ≡ false
   plain = timeout_plain e.kind is
 
   pub timeout_refused : (why : Refusal) → number_of why ≡ cell_refusal t.sizes e e.kind (get_or t.cells k zero_cell) → step_of t e ≡ stepped t (answer (number_of why) 0 64)
-  timeout_refused = cell_refused t h e plain pk
+  timeout_refused why g = cell_refused t w e plain pk g (number_some why)
 
-  module _ (caused : 0 ≡ cell_refusal t.sizes e e.kind (get_or t.cells k zero_cell)) {l : ℕ} (hl : l ≡ row_of e.line) {q : Serial} (hq : q.0 ≡ next (get_or t.serials l (record { 0 = 0 })).0)
+  module _ (caused : 0 ≡ cell_refusal t.sizes e e.kind (get_or t.cells k zero_cell)) where
+    inside : (e.kind ≤ 9) × (e.line < t.sizes.lines) × (e.node ≤ t.sizes.caches)
+    inside = within t w e plain pk caused
+
+    node_is : e.node < 9
+    node_is =
+        let zs = well_sizes t w in
+        let i = inside in
+        omega arith
+
+    -- the rows after the cause
+    number_is : refusal t e ≡ given (from 17 (table_of t e 7))
+    number_is = timeout_number t e w plain is (sym (caused ∙ cause_is t w e plain pk))
+
+  module _ {tags : List ℕ} (tagged : Tagged tags t.pool) (caused : 0 ≡ cell_refusal t.sizes e e.kind (get_or t.cells k zero_cell)) {l : ℕ} (hl : l ≡ row_of e.line)
+      {q : Serial} (hq : q.0 ≡ next (get_or t.serials l (record { 0 = 0 })).0)
       {nine : List Cell} (hnine : LineCopied t.cells l nine)
       {tag : ℕ} (htag : tag ≡ tag_of Tokens l q.0) {free : Bool} (hfree : free ≡ absent tags tag) where
-    inside : (e.kind ≤ 9) × (e.line < t.sizes.lines) × (e.node ≤ t.sizes.caches)
-    inside = within t h e plain pk caused
-
     line_is : l ≡ e.line
     line_is =
-        let zs = well_sizes t h.well in
-        let i = inside in
+        let zs = well_sizes t w in
+        let i = inside caused in
         row_is hl (omega arith)
 
     serial_is : q.0 ≡ next (serial_at t e.line)
@@ -78,21 +97,17 @@ module _ (t : State) {tags : List ℕ} (h : Held t tags) (e : Event) (is : timeo
     nine_is j below = hnine.same j below ∙ rw line_is
 
     own_is : get_or t.cells k zero_cell ≡ cell_of t e
-    own_is = let i = inside in named t h.well e pk i.1 i.2
+    own_is = let i = inside caused in named t w e pk i.1 i.2
 
     free_is : free ≡ unborne t e.line (next (serial_at t e.line))
-    free_is = hfree ∙ rw (htag, line_is, serial_is) (absent_is t h.tagged h.well e.line (next (serial_at t e.line)) (next_small (serial_at t e.line)))
-
-    -- the rows after the cause
-    number_is : refusal t e ≡ given (from 17 (table_of t e 7))
-    number_is = timeout_number t e h.well plain is (sym (caused ∙ cause_is t h e plain pk))
+    free_is = hfree ∙ rw (htag, line_is, serial_is) (absent_is t tagged w e.line (next (serial_at t e.line)) (next_small (serial_at t e.line)))
 
     renewal_number : refusal t e ≡ renewal_refusal (get_or t.cells k zero_cell) (not free) nine
     unfolding renewal_refusal from table given
-    renewal_number = number_is ∙ sym (rw (free_is, copyless_same {f = nth nine} {g = cell_at t e.line} nine_is, backupless_same {f = nth nine} {g = cell_at t e.line} nine_is, own_is))
+    renewal_number = number_is caused ∙ sym (rw (free_is, copyless_same {f = nth nine} {g = cell_at t e.line} nine_is, backupless_same {f = nth nine} {g = cell_at t e.line} nine_is, own_is))
 
-    pub renewal_refused : (why : Refusal) → number_of why ≡ renewal_refusal (get_or t.cells k zero_cell) (not free) nine → step_of t e ≡ stepped t (answer (number_of why) 0 64)
-    renewal_refused why g = refused t e why (renewal_number ∙ sym g)
+    pub renewal_refused : {number : ℕ} → number ≡ renewal_refusal (get_or t.cells k zero_cell) (not free) nine → number ≢ 0 → step_of t e ≡ stepped t (answer number 0 64)
+    renewal_refused g d = refused_turn t e (renewal_number ∙ sym g) d
 
     -- the word, and the cells
     word_is : {word : ℕ} → word ≡ word_for (get_or t.cells k zero_cell) (nth nine) → word ≡ word_for (cell_at t e.line e.node) (cell_at t e.line)
@@ -106,15 +121,18 @@ module _ (t : State) {tags : List ℕ} (h : Held t tags) (e : Event) (is : timeo
     serials_are : set t.serials l q ≡ set t.serials e.line (serial_of (next (serial_at t e.line)))
     serials_are = ap₂ (set t.serials) line_is (ap serial_of serial_is)
 
-    pub renewal_taken : 0 ≡ renewal_refusal (get_or t.cells k zero_cell) (not free) nine → {word : ℕ} {cells : List Cell} → word ≡ word_for (get_or t.cells k zero_cell) (nth nine)
+    pub renewal_turn : 0 ≡ renewal_refusal (get_or t.cells k zero_cell) (not free) nine → {word : ℕ} {cells : List Cell} → word ≡ word_for (get_or t.cells k zero_cell) (nth nine)
+        → cells ≡ fill_to 9 (l * 9) (renewed_at t.sizes.total.0 word e.node t.cells l) t.cells
+        → step_of t e ≡ stepped (record { sizes = t.sizes; serials = set t.serials l q; cells = cells; pool = t.pool }) (answer 0 0 64)
+    unfolding recreate_of with_serial
+    renewal_turn g hword hcells =
+        step_effect t e (renewal_number ∙ sym g) ∙ timeout_effect t e e.kind (inside caused).0 is
+        ∙ sym (ap₂ (λ qs cs. stepped (record { sizes = t.sizes; serials = qs; cells = cs; pool = t.pool }) (answer 0 0 64)) serials_are (hcells ∙ cells_are hword))
+
+    pub renewal_taken : Held t tags → 0 ≡ renewal_refusal (get_or t.cells k zero_cell) (not free) nine → {word : ℕ} {cells : List Cell} → word ≡ word_for (get_or t.cells k zero_cell) (nth nine)
         → cells ≡ fill_to 9 (l * 9) (renewed_at t.sizes.total.0 word e.node t.cells l) t.cells
         → Taken t e (record { sizes = t.sizes; serials = set t.serials l q; cells = cells; pool = t.pool }) (answer 0 0 64) tags
-    unfolding recreate_of with_serial
-    renewal_taken g hword hcells =
-        taken h e
-        (step_effect t e (renewal_number ∙ sym g) ∙ timeout_effect t e e.kind inside.0 is
-        ∙ sym (ap₂ (λ qs cs. stepped (record { sizes = t.sizes; serials = qs; cells = cs; pool = t.pool }) (answer 0 0 64)) serials_are (hcells ∙ cells_are hword)))
-        h.tagged
+    renewal_taken h g hword hcells = taken h e (renewal_turn g hword hcells) h.tagged
 
 -- filling leaves what is not yet filled
 fill_other : (k at : ℕ) (f : ℕ → Cell) (l : List Cell) (j : ℕ) → k ≤ j → get_or (fill_to k at f l) (at + j) zero_cell ≡ get_or l (at + j) zero_cell

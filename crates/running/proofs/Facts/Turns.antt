@@ -61,8 +61,11 @@ pub number_some : (why : Refusal) → number_of why ≢ 0
 number_some why h = grind arith
 
 -- a refusal leaves all as it was
+pub refused_turn : (t : State) (e : Event) {n : ℕ} → refusal t e ≡ n → n ≢ 0 → step_of t e ≡ stepped t (answer n 0 64)
+refused_turn t e {n} h d = step_refused t e (rw h (ne_eqb n 0 d)) ∙ rw h
+
 pub refused : (t : State) (e : Event) (why : Refusal) → refusal t e ≡ number_of why → step_of t e ≡ stepped t (answer (number_of why) 0 64)
-refused t e why h = step_refused t e (rw h (ne_eqb (number_of why) 0 (number_some why))) ∙ rw h
+refused t e why h = refused_turn t e h (number_some why)
 
 -- what a `?` gives back
 pub told : (r : Result Answer Refusal) (why : Refusal) {t : State} {u : Stepped} → IsErrAnd r (λ given. given ≡ why) → u ≡ stepped t (answer (number_of why) 0 64) → u ≡ stepped t (said r)

@@ -1,5 +1,5 @@
 use native.Mathlib.Omega.{arith}
-use Rattle.text.proofs.Events.{going_on, going_full, going_none}
+use Rattle.text.proofs.Events.{going_on, going_most, going_none}
 use Rattle.text.proofs.chunks.parse.Goals as goal
 
 pub returns-then-s-next : goal.returns-then-s-next
@@ -21,4 +21,4 @@ loop-lines-preserved c =
 pub returns : goal.returns
 returns c =
     let l = c.loop-lines in
-    rw (← l.invariant.0) (going_full _ _ _ _ l.next l.lines l.at l.words l.marks l.invariant.2 (omega arith))
+    rw (← l.invariant.0) (going_most _ _ _ _ l.next l.lines l.at l.words l.marks l.invariant.2 (omega arith))

@@ -1,4 +1,4 @@
-use Rattle.running.proofs.Facts.Turns.{held, told}
+use Rattle.running.proofs.Facts.Turns.{held, number_some, told}
 use Rattle.running.proofs.Facts.Searches.{slot_near}
 use Rattle.running.proofs.Facts.Slots.{slot_refused, slot_taken}
 use borrow.Author.Rules.{rules}
@@ -6,7 +6,7 @@ use Rattle.running.proofs.steps.Run.deliver.Goals as goal
 
 pub returns-in_err-slot_refusal : goal.returns-in_err-slot_refusal
 returns-in_err-slot_refusal c =
-    told _ _ c.from_residual.ensures.1 (slot_refused _ _ c.requires c.args.self.now.well c.args.self.now.tagged _ c.in_err-slot_refusal.ensures)
+    told _ _ c.from_residual.ensures.1 (slot_refused _ _ c.requires c.args.self.now.well c.args.self.now.tagged c.in_err-slot_refusal.ensures (number_some _))
 
 pub bounds-self-slot : goal.bounds-self-slot
 bounds-self-slot c = slot_near _ _ c.in_ok-slot_refusal.ensures

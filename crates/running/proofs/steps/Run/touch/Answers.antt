@@ -5,17 +5,16 @@ use Rattle.running.proofs.steps.Run.touch.Goals as goal
 
 pub returns-in_err-cell_refusal : goal.returns-in_err-cell_refusal
 returns-in_err-cell_refusal c =
-    let h = held c.args.self.now (search rules) in
-    told _ _ c.from_residual.ensures.1 (touch_refused _ h _ c.requires c.place-k.ensures.1 _ c.in_err-cell_refusal.ensures)
+    told _ _ c.from_residual.ensures.1 (touch_refused _ c.args.self.now.well _ c.requires c.place-k.ensures.1 _ c.in_err-cell_refusal.ensures)
 
 pub invariant_of-self : goal.invariant_of-self
 invariant_of-self c =
     let h = held c.args.self.now (search rules) in
-    let d = touch_taken _ h _ c.requires c.place-k.ensures.1 c.in_ok-cell_refusal.ensures c.touch.ensures in
+    let d = touch_taken _ h.well _ c.requires c.place-k.ensures.1 h c.in_ok-cell_refusal.ensures c.touch.ensures in
     record { well = d.well; tagged = d.tagged }
 
 pub returns : goal.returns
 returns c =
     let h = held c.args.self.now (search rules) in
-    let d = touch_taken _ h _ c.requires c.place-k.ensures.1 c.in_ok-cell_refusal.ensures c.touch.ensures in
+    let d = touch_taken _ h.well _ c.requires c.place-k.ensures.1 h c.in_ok-cell_refusal.ensures c.touch.ensures in
     rw (c.answer.ensures, c.either-word.ensures) d.step
