@@ -132,10 +132,22 @@ fn backups(rt: &impl Print) {
         event(Kind::LostToken, 0),
     );
     // three backups: the node that is named uses its own, and its read gives that word
-    let three = with_three(backed(7), backed(8), memory);
-    then_read(rt, three, event(Kind::LostToken, 0));
-    then_read(rt, three, event(Kind::LostToken, 1));
-    then_read(rt, three, event(Kind::LostData, 1));
+    // it is made anew for each: one that is kept takes 3 KB of stack more
+    then_read(
+        rt,
+        with_three(backed(7), backed(8), memory),
+        event(Kind::LostToken, 0),
+    );
+    then_read(
+        rt,
+        with_three(backed(7), backed(8), memory),
+        event(Kind::LostToken, 1),
+    );
+    then_read(
+        rt,
+        with_three(backed(7), backed(8), memory),
+        event(Kind::LostData, 1),
+    );
     // no owner, no valid cell and no backup on the line: 18
     said(rt, with_two(waiting, none), event(Kind::LostToken, 0));
 }
