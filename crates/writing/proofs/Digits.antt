@@ -35,7 +35,7 @@ below_power = decimal_by_steps (λ m ds. m < 10 ^ length ds) (λ m h. omega arit
     (λ m ds h i. let p = pow-suc 10 (length ds) in let l : length (ds ++ ((48 + m % 10) ∷ [])) ≡ suc (length ds) = rw length-append (omega arith) in rw l (omega arith))
 
 -- how many they are
-pub width_is : (k n : ℕ) → n < 2 ^ 32 → n < 10 * 10 ^ k → (k ≡ 0) ⊎ (10 ^ k ≤ n) → k + 1 ≡ length (decimal n)
+pub width_is : (k n : ℕ) → n < 10 ^ 10 → n < 10 * 10 ^ k → (k ≡ 0) ⊎ (10 ^ k ≤ n) → k + 1 ≡ length (decimal n)
 width_is k n w h o =
     let p = pow-suc 10 k in
     let l = length-decimal-le (suc k) n (omega arith) (omega arith) (omega arith) in
@@ -49,5 +49,5 @@ width_is k n w h o =
 -- as the library's logarithm says it
 pub width_by_log : (n : ℕ) (o : Option ℕ) → n < 2 ^ 32 → IfNone o (n ≡ 0) → IfSome o (λ k. 10 ^ k ≤ n) → IfSome o (λ k. n < 10 * 10 ^ k) → IfSome o (λ k. k < 10)
     → (unwrap_or o 0 + 1 ≡ length (decimal n)) × (unwrap_or o 0 + 1 ≤ 10)
-width_by_log n None w z a b s = (width_is 0 n w (omega (arith, z)) (inl refl), omega arith)
-width_by_log n (Some k) w z a b s = (width_is k n w b (inr a), omega arith)
+width_by_log n None w z a b s = (width_is 0 n (omega arith) (omega (arith, z)) (inl refl), omega arith)
+width_by_log n (Some k) w z a b s = (width_is k n (omega arith) b (inr a), omega arith)
